@@ -1,7 +1,6 @@
 -- The turns of the loop that merges two sets.
 use Rattle.std.proofs.Common.{◌≡◌, ℕ, ◌+◌, ◌<◌, ◌≤◌, Bool, true, false, refl, sym, ap, ◌∙◌, subst, arith, List, [], ◌∷◌, drop, length, get_or}
 use Rattle.std.specs.Prelude.{◌||◌, None, Result, Ok, Err, IfOk}
-use Rattle.pr_stamps.specs.declared.stamp.NoMemory.{NoMemory}
 use Rattle.pr_names.specs.Name.{IsName}
 use Rattle.pr_names.specs.Span.{Span, holds}
 use Rattle.pr_names.proofs.Place.{from_place}
@@ -132,6 +131,6 @@ right_ends a b i j k le h =
     (λ x hx. ap (λ c. has (all_of k) x || c) (sym (or_none (has (drop i a) x))) ∙ ap (λ us. has (all_of k) x || (has (drop i a) x || has us x)) (sym none) ∙ h.names x hx))
 
 -- what the list is finished as
-pub finished : (a b : List Span) (r : Result (List Span) NoMemory) (k : Joining) → IfOk r (λ parts. parts ≡ all_of k) → IsUnion a b (all_of k) → IfOk r (IsUnion a b)
+pub finished : {E : Type 0} (a b : List Span) (r : Result (List Span) E) (k : Joining) → IfOk r (λ parts. parts ≡ all_of k) → IsUnion a b (all_of k) → IfOk r (IsUnion a b)
 finished a b (Ok parts) k h u = let P : List Span → Type 0 = λ us. IsUnion a b us in subst P (sym h) u
 finished a b (Err e) k h u = tt

@@ -1,7 +1,6 @@
 -- The turns of the loops that print sets.
 use Rattle.std.proofs.Common.{◌≡◌, ℕ, ◌+◌, ◌-◌, ◌<◌, ◌≤◌, true, false, refl, sym, ap, ◌∙◌, subst, arith, inl, inr, List, [], ◌∷◌, ◌++◌, length, take, drop, get_or, append_assoc}
 use Rattle.std.specs.Prelude.{◌==◌, Result, Ok, Err, OnErr}
-use Rattle.pr_stamps.specs.declared.stamp.NoMemory.{NoMemory}
 use Rattle.std.proofs.lemmas.Bool.Decides.{eqb_tells}
 use Rattle.std.proofs.lemmas.List.{append-nil, take_all, take_more}
 use Rattle.std.proofs.Common.{take-append-drop}
@@ -28,18 +27,22 @@ front_behind old mid new text more e h = record {
   adds = h.adds ∙ ap (λ t. t ++ h.front) e ∙ append_assoc old text h.front;
 }
 
-pub front_bytes : (old new bytes : List ℕ) (i : ℕ) → new ≡ old ++ take i bytes → AddsFront old new bytes
-front_bytes old new bytes i e = record { front = take i bytes; left = drop i bytes; is_front = sym (take-append-drop i bytes); adds = e }
+pub front_none : (old new text : List ℕ) → new ≡ old → AddsFront old new text
+front_none old new text e = record { front = []; left = text; is_front = refl; adds = e ∙ sym (append-nil old) }
 
-pub on_err : (r : Result (Unit {0}) NoMemory) (old new text : List ℕ) → AddsFront old new text → OnErr r (AddsFront old new text)
+pub on_err_none : {E : Type 0} (r : Result (Unit {0}) E) (old new text : List ℕ) → OnErr r (new ≡ old) → OnErr r (AddsFront old new text)
+on_err_none (Ok u) old new text h = tt
+on_err_none (Err e) old new text h = front_none old new text h
+
+pub on_err : {E : Type 0} (r : Result (Unit {0}) E) (old new text : List ℕ) → AddsFront old new text → OnErr r (AddsFront old new text)
 on_err (Ok u) old new text h = tt
 on_err (Err e) old new text h = h
 
-pub on_err_first : (r : Result (Unit {0}) NoMemory) (old new text more : List ℕ) → OnErr r (AddsFront old new text) → OnErr r (AddsFront old new (text ++ more))
+pub on_err_first : {E : Type 0} (r : Result (Unit {0}) E) (old new text more : List ℕ) → OnErr r (AddsFront old new text) → OnErr r (AddsFront old new (text ++ more))
 on_err_first (Ok u) old new text more h = tt
 on_err_first (Err e) old new text more h = front_first old new text more h
 
-pub on_err_behind : (r : Result (Unit {0}) NoMemory) (old mid new text more : List ℕ) → mid ≡ old ++ text → OnErr r (AddsFront mid new more) → OnErr r (AddsFront old new (text ++ more))
+pub on_err_behind : {E : Type 0} (r : Result (Unit {0}) E) (old mid new text more : List ℕ) → mid ≡ old ++ text → OnErr r (AddsFront mid new more) → OnErr r (AddsFront old new (text ++ more))
 on_err_behind (Ok u) old mid new text more e h = tt
 on_err_behind (Err f) old mid new text more e h = front_behind old mid new text more e h
 
@@ -73,7 +76,7 @@ more_turn parts i s old out mid new lt is em en told =
 pub more_end : (parts : List Span) (i : ℕ) (old out : List ℕ) → length parts ≤ i → out ≡ old ++ more_text (take i parts) → out ≡ old ++ more_text parts
 more_end parts i old out le told = told ∙ ap (λ ss. old ++ more_text ss) (take_all i parts le)
 
-pub comma_refused : (r : Result (Unit {0}) NoMemory) (parts : List Span) (i : ℕ) (s : Span) (old out new : List ℕ) → i < length parts → s ≡ get_or parts i s → out ≡ old ++ more_text (take i parts) → AddsFront out new (44 ∷ []) → OnErr r (AddsFront old new (more_text parts))
+pub comma_refused : {E : Type 0} (r : Result (Unit {0}) E) (parts : List Span) (i : ℕ) (s : Span) (old out new : List ℕ) → i < length parts → s ≡ get_or parts i s → out ≡ old ++ more_text (take i parts) → AddsFront out new (44 ∷ []) → OnErr r (AddsFront old new (more_text parts))
 comma_refused r parts i s old out new lt is told h =
     let P : List ℕ → Type 0 = λ text. OnErr r (AddsFront old new text) in
     subst P (sym (more_parts parts i s lt is))
@@ -81,7 +84,7 @@ comma_refused r parts i s old out new lt is told h =
     (front_behind old out new (more_text (take i parts)) (44 ∷ (interval_text s ++ more_text (drop (i + 1) parts))) told
     (front_first out new (44 ∷ []) (interval_text s ++ more_text (drop (i + 1) parts)) h)))
 
-pub interval_refused : (r : Result (Unit {0}) NoMemory) (parts : List Span) (i : ℕ) (s : Span) (old out mid new : List ℕ) → i < length parts → s ≡ get_or parts i s → out ≡ old ++ more_text (take i parts) → mid ≡ out ++ 44 ∷ [] → AddsFront mid new (interval_text s) → OnErr r (AddsFront old new (more_text parts))
+pub interval_refused : {E : Type 0} (r : Result (Unit {0}) E) (parts : List Span) (i : ℕ) (s : Span) (old out mid new : List ℕ) → i < length parts → s ≡ get_or parts i s → out ≡ old ++ more_text (take i parts) → mid ≡ out ++ 44 ∷ [] → AddsFront mid new (interval_text s) → OnErr r (AddsFront old new (more_text parts))
 interval_refused r parts i s old out mid new lt is told em h =
     let P : List ℕ → Type 0 = λ text. OnErr r (AddsFront old new text) in
     let more = interval_text s ++ more_text (drop (i + 1) parts) in

@@ -6,7 +6,6 @@ use Rattle.std.specs.List.Sorted.{IsPermutation, IsSortedByKey}
 use Rattle.std.specs.Cmp.Lexicographic.{slice_cmp}
 use Rattle.std.specs.Result.{IsErrAnd}
 use Rattle.std.specs.Ordering.{is_lt, nat_cmp}
-use Rattle.pr_stamps.specs.declared.stamp as stamp
 use Rattle.std.proofs.lemmas.Bool.Decides.{leb_tells}
 use Rattle.std.proofs.lemmas.List.{take_all}
 use Rattle.std.proofs.lemmas.List.Elements.{All-head, All-tail}
@@ -168,11 +167,11 @@ in_order_of ss h k i d e lt =
     ∙ ap (λ n. is_lt (slice_cmp nat_cmp (get_or ss n d).lo (get_or ss k d).lo)) e
     ∙ h k d (omega arith) (omega arith)
 
-pub listed_list : (parts ordered : List Span) (r : Result (List Span) stamp.NoMemory.NoMemory) (j k : Joining) → All IsSpan parts → IsPermutation parts ordered → InOrder ordered → j ≡ record { done = []; last = None } → k ≡ puts j ordered → IfOk r (λ set. set ≡ all_of k) → IfOk r (λ set. set ≡ list_of parts)
+pub listed_list : {E : Type 0} (parts ordered : List Span) (r : Result (List Span) E) (j k : Joining) → All IsSpan parts → IsPermutation parts ordered → InOrder ordered → j ≡ record { done = []; last = None } → k ≡ puts j ordered → IfOk r (λ set. set ≡ all_of k) → IfOk r (λ set. set ≡ list_of parts)
 listed_list parts ordered (Ok set) j k all moved o ej ek es = (joined_in_order parts ordered set j k all moved o ej ek es).0
 listed_list parts ordered (Err e) j k all moved o ej ek es = tt
 
-pub listed_set : (parts ordered : List Span) (r : Result (List Span) stamp.NoMemory.NoMemory) (j k : Joining) → All IsSpan parts → IsPermutation parts ordered → InOrder ordered → j ≡ record { done = []; last = None } → k ≡ puts j ordered → IfOk r (λ set. set ≡ all_of k) → IfOk r (λ set. IsSet set)
+pub listed_set : {E : Type 0} (parts ordered : List Span) (r : Result (List Span) E) (j k : Joining) → All IsSpan parts → IsPermutation parts ordered → InOrder ordered → j ≡ record { done = []; last = None } → k ≡ puts j ordered → IfOk r (λ set. set ≡ all_of k) → IfOk r (λ set. IsSet set)
 listed_set parts ordered (Ok set) j k all moved o ej ek es = (joined_in_order parts ordered set j k all moved o ej ek es).1
 listed_set parts ordered (Err e) j k all moved o ej ek es = tt
 

@@ -124,10 +124,7 @@ impl NameSet {
     pub fn copy(&self, alloc: Global) -> Result<NameSet, NoMemory>
         ensures { IfOk result (λ set. set ≡ self.now) }
     {
-        let mut parts = Seq::new(alloc);
-        for part in self.parts() {
-            parts.push(*part)?;
-        }
+        let parts = Seq::copied(alloc, self.parts())?;
         Ok(NameSet { parts })
     }
 

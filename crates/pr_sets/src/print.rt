@@ -12,7 +12,7 @@ pub fn print(parts: &[Interval], out: &mut Seq<u8>) -> Result<(), NoMemory>
     ensures err { OnErr result (AddsFront out.old out.new (set_text parts.now)) }
 {
     if parts.is_empty() {
-        return push_bytes(out, b"~");
+        return add(out, b"~");
     }
     print_interval(&parts[0], out)?;
     print_more(&parts[1..], out)
@@ -24,7 +24,7 @@ fn print_more(parts: &[Interval], out: &mut Seq<u8>) -> Result<(), NoMemory>
     ensures err { OnErr result (AddsFront out.old out.new (more_text parts.now)) }
 {
     for part in parts {
-        push_bytes(out, b",")?;
+        add(out, b",")?;
         print_interval(part, out)?;
     }
     Ok(())
@@ -37,9 +37,9 @@ fn print_interval(part: &Interval, out: &mut Seq<u8>) -> Result<(), NoMemory>
     ensures err { OnErr result (AddsFront out.old out.new (interval_text part.now)) }
 {
     if is_whole(part) {
-        return push_bytes(out, b"*");
+        return add(out, b"*");
     }
-    push_bytes(out, part.lo().bytes())?;
+    add(out, part.lo().bytes())?;
     print_end(part, out)
 }
 
@@ -54,9 +54,9 @@ fn print_end(part: &Interval, out: &mut Seq<u8>) -> Result<(), NoMemory>
         return Ok(());
     }
     if are_same(&hi, &part.lo().after_all()) {
-        return push_bytes(out, b"*");
+        return add(out, b"*");
     }
-    push_bytes(out, b":")?;
+    add(out, b":")?;
     push_bound(&hi, out)
 }
 
@@ -65,8 +65,8 @@ fn push_bound(bound: &Bound, out: &mut Seq<u8>) -> Result<(), NoMemory>
     ensures err { OnErr result (AddsFront out.old out.new (bound_text bound.now)) }
 {
     match bound {
-        Bound::At(name) => push_bytes(out, name.bytes()),
-        Bound::End => push_bytes(out, b"~"),
+        Bound::At(name) => add(out, name.bytes()),
+        Bound::End => add(out, b"~"),
     }
 }
 
@@ -86,13 +86,10 @@ fn are_same(bound: &Bound, other: &Bound) -> bool
     }
 }
 
-/// Adds the bytes.
-pub fn push_bytes(out: &mut Seq<u8>, bytes: &[u8]) -> Result<(), NoMemory>
+// Adds the bytes, or nothing.
+fn add(out: &mut Seq<u8>, bytes: &[u8]) -> Result<(), NoMemory>
     ensures ok { OnOk result (out.new ≡ out.old ++ bytes.now) }
     ensures err { OnErr result (AddsFront out.old out.new bytes.now) }
 {
-    for byte in bytes {
-        out.push(*byte)?;
-    }
-    Ok(())
+    out.extend(bytes)
 }

@@ -7,13 +7,13 @@ use Rattle.pr_sets.proofs.print.print.Goals as goal
 
 pub returns-then-is_empty-clause-ok : goal.returns-then-is_empty-clause-ok
 returns-then-is_empty-clause-ok c =
-    let P : List ℕ → Type 0 = λ text. OnOk c.push_bytes.result (c.push_bytes.new.out ≡ c.args.out.now ++ text) in
-    subst P (empty_text c.args.parts.now (sym c.is_empty.ensures ∙ c.if-is_empty.true)) c.push_bytes.ensures.ok
+    let P : List ℕ → Type 0 = λ text. OnOk c.add.result (c.add.new.out ≡ c.args.out.now ++ text) in
+    subst P (empty_text c.args.parts.now (sym c.is_empty.ensures ∙ c.if-is_empty.true)) c.add.ensures.ok
 
 pub returns-then-is_empty-clause-err : goal.returns-then-is_empty-clause-err
 returns-then-is_empty-clause-err c =
-    let P : List ℕ → Type 0 = λ text. OnErr c.push_bytes.result (AddsFront c.args.out.now c.push_bytes.new.out text) in
-    subst P (empty_text c.args.parts.now (sym c.is_empty.ensures ∙ c.if-is_empty.true)) c.push_bytes.ensures.err
+    let P : List ℕ → Type 0 = λ text. OnErr c.add.result (AddsFront c.args.out.now c.add.new.out text) in
+    subst P (empty_text c.args.parts.now (sym c.is_empty.ensures ∙ c.if-is_empty.true)) c.add.ensures.err
 
 pub returns-in_err-print_interval-clause-err : goal.returns-in_err-print_interval-clause-err
 returns-in_err-print_interval-clause-err c =
