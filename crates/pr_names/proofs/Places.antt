@@ -212,3 +212,15 @@ span_some s h = under_places s.lo s.hi h.lo h.hi h.some
 
 pub span_of : (s : Span) → IsName s.lo → IsBound s.hi → from_place s < to_place s → IsSpan s
 span_of s lo hi some = record { lo = lo; hi = hi; some = places_under s.lo s.hi lo hi some }
+
+pub bound_lt_places : (b c : Bound) → IsBound b → IsBound c → IsTrue (bound_lt b c) → bound_place b < bound_place c
+bound_lt_places b c hb hc h = elim (bound_lt_tells b c hb hc) [ inl g ↦ g.1 | inr g ↦ absurd (false≢true (sym g.0 ∙ h)) ]
+
+pub places_bound_lt : (b c : Bound) → IsBound b → IsBound c → bound_place b < bound_place c → IsTrue (bound_lt b c)
+places_bound_lt b c hb hc h = elim (bound_lt_tells b c hb hc) [ inl g ↦ g.0 | inr g ↦ absurd (omega (arith, g.1)) ]
+
+pub bound_le_places : (b c : Bound) → IsBound b → IsBound c → bound_lt b c ≡ false → bound_place c ≤ bound_place b
+bound_le_places b c hb hc h = elim (bound_lt_tells b c hb hc) [ inl g ↦ absurd (false≢true (sym h ∙ g.0)) | inr g ↦ g.1 ]
+
+pub le_places : (x y : List ℕ) → IsName x → IsName y → name_lt x y ≡ false → place y ≤ place x
+le_places x y hx hy h = elim (lt_tells x y hx hy) [ inl g ↦ absurd (false≢true (sym h ∙ g.0)) | inr g ↦ g.1 ]

@@ -6,13 +6,14 @@ use Rattle.std.specs.Str.{bytes_eq}
 use Rattle.std.proofs.lemmas.Bool.Decides.{leb_tells, eqb_tells, nat_tests}
 use Rattle.std.proofs.lemmas.Bool.{false≢true}
 use Rattle.std.proofs.Math.Seq.{take-append_seam}
+use Rattle.std.proofs.lemmas.List.{append-nil}
 use Rattle.pr_names.specs.Byte.{allowed}
 use Rattle.pr_names.specs.Name.{Allowed, IsName}
 use Rattle.pr_names.specs.Read.{name_read, unless_bad}
 use Rattle.pr_names.specs.Bound.{IsBound}
 use Rattle.pr_names.specs.Above.{after_of, after_all_of}
 use Rattle.pr_names.specs.Span.{Span, IsSpan}
-use Rattle.pr_names.specs.Text.{whole, one, all_from, with_name, with_bound, bound_read, in_order, ends_read, star_read, single_read, ends_in_star, read_at, interval_read, bound_text, same_bound, is_whole, is_one, is_all_from, interval_text}
+use Rattle.pr_names.specs.Text.{whole, one, all_from, with_name, with_bound, bound_read, in_order, ends_read, star_read, single_read, ends_in_star, read_at, interval_read, bound_text, same_bound, is_whole, is_one, is_all_from, end_text, interval_text}
 use Rattle.pr_names.specs.declared.bound.Bound.{Bound}
 use Rattle.pr_names.specs.declared.bound.Bound.TheVariants.{At, End}
 use Rattle.pr_names.proofs.Bytes.{allowed_least, allowed_most}
@@ -162,11 +163,11 @@ unfolding interval_read star_read
 whole_text = refl
 
 pub reads_back : (s : Span) → IsSpan s → interval_read (interval_text s) ≡ Ok s
-unfolding interval_text
+unfolding interval_text end_text
 reads_back s h = elim (either_tests (is_whole s)) [
   | inl e ↦ rw e (whole_text ∙ ap Ok (sym (whole_is s e)))
   | inr e ↦ rw e (elim (either_tests (is_one s)) [
-    | inl f ↦ rw f (name_text s.lo h.lo ∙ ap Ok (sym (same_span s (one s.lo) refl (same_of s.hi (after_of s.lo) f))))
+    | inl f ↦ rw f (ap interval_read (append-nil s.lo) ∙ name_text s.lo h.lo ∙ ap Ok (sym (same_span s (one s.lo) refl (same_of s.hi (after_of s.lo) f))))
     | inr f ↦ rw f (elim (either_tests (is_all_from s)) [
       | inl g ↦ rw g (star_text s.lo h.lo ∙ ap Ok (sym (same_span s (all_from s.lo) refl (same_of s.hi (after_all_of s.lo) g))))
       | inr g ↦ rw g (ends_text s h)
@@ -178,18 +179,22 @@ bound_lacks : (c : ℕ) (b : Bound) → allowed c ≡ false → (126 == c) ≡ f
 bound_lacks c (At n) h t hb = name_lacks c n h hb.each
 bound_lacks c End h t hb = (t, tt)
 
+end_lacks : (s : Span) → IsBound s.hi → Lacks (λ b. b == 44) (end_text s)
+unfolding end_text
+end_lacks s h = elim (either_tests (is_one s)) [
+  | inl f ↦ rw f tt
+  | inr f ↦ rw f (elim (either_tests (is_all_from s)) [
+    | inl g ↦ rw g (refl, tt)
+    | inr g ↦ rw g (refl, bound_lacks 44 s.hi refl refl h)
+  ])
+]
+
 -- no comma is printed
 pub text_lacks_comma : (s : Span) → IsSpan s → Lacks (λ b. b == 44) (interval_text s)
 unfolding interval_text
 text_lacks_comma s h = elim (either_tests (is_whole s)) [
   | inl e ↦ rw e (refl, tt)
-  | inr e ↦ rw e (elim (either_tests (is_one s)) [
-    | inl f ↦ rw f (name_lacks 44 s.lo refl h.lo.each)
-    | inr f ↦ rw f (elim (either_tests (is_all_from s)) [
-      | inl g ↦ rw g (lacks_append (λ b. b == 44) s.lo (42 ∷ []) (name_lacks 44 s.lo refl h.lo.each) (refl, tt))
-      | inr g ↦ rw g (lacks_append (λ b. b == 44) s.lo (58 ∷ bound_text s.hi) (name_lacks 44 s.lo refl h.lo.each) (refl, bound_lacks 44 s.hi refl refl h.hi))
-    ])
-  ])
+  | inr e ↦ rw e (lacks_append (λ b. b == 44) s.lo (end_text s) (name_lacks 44 s.lo refl h.lo.each) (end_lacks s h.hi))
 ]
 
 begins_no_end : (n cs : List ℕ) → IsName n → bytes_eq (n ++ cs) (126 ∷ []) ≡ false
@@ -201,11 +206,5 @@ pub text_is_no_end : (s : Span) (cs : List ℕ) → IsSpan s → bytes_eq (inter
 unfolding interval_text
 text_is_no_end s cs h = elim (either_tests (is_whole s)) [
   | inl e ↦ rw e refl
-  | inr e ↦ rw e (elim (either_tests (is_one s)) [
-    | inl f ↦ rw f (begins_no_end s.lo cs h.lo)
-    | inr f ↦ rw f (elim (either_tests (is_all_from s)) [
-      | inl g ↦ rw (g, append_assoc) (begins_no_end s.lo ((42 ∷ []) ++ cs) h.lo)
-      | inr g ↦ rw (g, append_assoc) (begins_no_end s.lo ((58 ∷ bound_text s.hi) ++ cs) h.lo)
-    ])
-  ])
+  | inr e ↦ rw (e, append_assoc) (begins_no_end s.lo (end_text s ++ cs) h.lo)
 ]

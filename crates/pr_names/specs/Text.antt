@@ -83,9 +83,9 @@ is_one s = same_bound s.hi (after_of s.lo)
 abbrev pub is_all_from : Span → Bool
 is_all_from s = same_bound s.hi (after_all_of s.lo)
 
--- *, or a name, or a name and *, or both ends: the first that spells the interval
+-- what stands behind the name: nothing, or *, or a colon and the bound, the first that spells the interval
+unfoldable pub end_text : Span → List ℕ
+end_text s = cond (is_one s) [] (cond (is_all_from s) (42 ∷ []) (58 ∷ bound_text s.hi))
+
 unfoldable pub interval_text : Span → List ℕ
-interval_text s =
-    cond (is_whole s) (42 ∷ [])
-    (cond (is_one s) s.lo
-    (cond (is_all_from s) (s.lo ++ 42 ∷ []) (s.lo ++ 58 ∷ bound_text s.hi)))
+interval_text s = cond (is_whole s) (42 ∷ []) (s.lo ++ end_text s)

@@ -2,7 +2,7 @@
 ghost use Rattle.pr_names.specs.Bound.{is_under};
 ghost use Rattle.pr_names.specs.Span.{IsSpan, Overlap, holds};
 ghost use Rattle.pr_names.specs.Text.{interval_read};
-ghost use Rattle.std.specs.Prelude.{◌≡◌, ◌↔◌, IfSome, IsTrue, is_some};
+ghost use Rattle.std.specs.Prelude.{◌≡◌, ◌↔◌, IfOk, IfSome, IsTrue, is_some};
 
 use crate::{Bound, IntervalFault, Name, text};
 use std::marker::Model;
@@ -29,9 +29,12 @@ impl Model for Interval {
 impl Interval {
     /// The interval that the bytes spell, or the first fault.
     pub fn read(bytes: &[u8]) -> Result<Interval, IntervalFault>
-        ensures { result ≡ interval_read bytes.now }
+        ensures value { result ≡ interval_read bytes.now }
+        ensures interval { IfOk result (λ i. IsSpan i) }
     {
-        text::read(bytes)
+        let interval = text::read(bytes)?;
+        let _ = interval.lo();
+        Ok(interval)
     }
 
     /// None exactly where the bound does not come after the name.

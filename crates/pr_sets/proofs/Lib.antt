@@ -1,0 +1,16 @@
+pub mod Between
+pub mod Apart
+pub mod Same
+pub mod Lists
+pub mod SpanEnds
+pub mod Adding
+pub mod Parts
+pub mod Intersections
+pub mod Complements
+pub mod Turns
+pub mod Joins
+pub mod Merges
+pub mod Meetings
+pub mod Texts
+pub mod Printing
+pub mod Reading

@@ -1,0 +1,132 @@
+-- Intervals that are joined, shared and made.
+use Rattle.std.proofs.Common.{◌≡◌, ℕ, ◌<◌, ◌≤◌, ◌⊎◌, true, false, refl, sym, ap, ◌∙◌, subst, arith, inl, inr, List, [], ◌∷◌}
+use Rattle.std.specs.Prelude.{◌||◌, ◌&&◌, min, max, Option, Some, None, IfSome, IsTrue, is_some}
+use Rattle.std.specs.Option.{option_to_list}
+use Rattle.std.proofs.lemmas.Bool.{false≢true}
+use Rattle.pr_names.specs.Name.{IsName}
+use Rattle.pr_names.specs.Bound.{IsBound, is_under}
+use Rattle.pr_names.specs.Span.{Span, IsSpan, holds}
+use Rattle.pr_names.specs.declared.bound.Bound.{Bound}
+use Rattle.pr_names.proofs.Place.{place, bound_place, from_place, to_place}
+use Rattle.pr_names.proofs.Places.{between, between_tells, bound_lt_tells, holds_is, lt_tells, span_of, span_some, under_tells}
+use Rattle.pr_sets.specs.Ends.{greater_bound, greater_name, joined, lesser_bound, lesser_name, shared_list, span_list}
+use Rattle.pr_sets.specs.Spans.{has}
+use Rattle.pr_sets.proofs.Between.{joins, shares, shares_none}
+use Rattle.pr_sets.proofs.Lists.{or_none}
+
+pub lesser_name_place : (a b : List ℕ) → IsName a → IsName b → place (lesser_name a b) ≡ min (place a) (place b)
+lesser_name_place a b ha hb = elim (lt_tells b a hb ha) [ inl g ↦ rw g.0 (omega (arith, g.1)) | inr g ↦ rw g.0 (omega (arith, g.1)) ]
+
+pub greater_name_place : (a b : List ℕ) → IsName a → IsName b → place (greater_name a b) ≡ max (place a) (place b)
+greater_name_place a b ha hb = elim (lt_tells b a hb ha) [ inl g ↦ rw g.0 (omega (arith, g.1)) | inr g ↦ rw g.0 (omega (arith, g.1)) ]
+
+pub lesser_bound_place : (a b : Bound) → IsBound a → IsBound b → bound_place (lesser_bound a b) ≡ min (bound_place a) (bound_place b)
+lesser_bound_place a b ha hb = elim (bound_lt_tells b a hb ha) [ inl g ↦ rw g.0 (omega (arith, g.1)) | inr g ↦ rw g.0 (omega (arith, g.1)) ]
+
+pub greater_bound_place : (a b : Bound) → IsBound a → IsBound b → bound_place (greater_bound a b) ≡ max (bound_place a) (bound_place b)
+greater_bound_place a b ha hb = elim (bound_lt_tells b a hb ha) [ inl g ↦ rw g.0 (omega (arith, g.1)) | inr g ↦ rw g.0 (omega (arith, g.1)) ]
+
+lesser_name_is : (a b : List ℕ) → IsName a → IsName b → IsName (lesser_name a b)
+lesser_name_is a b ha hb = elim (lt_tells b a hb ha) [ inl g ↦ rw g.0 hb | inr g ↦ rw g.0 ha ]
+
+pub greater_name_is : (a b : List ℕ) → IsName a → IsName b → IsName (greater_name a b)
+greater_name_is a b ha hb = elim (lt_tells b a hb ha) [ inl g ↦ rw g.0 ha | inr g ↦ rw g.0 hb ]
+
+pub lesser_bound_is : (a b : Bound) → IsBound a → IsBound b → IsBound (lesser_bound a b)
+lesser_bound_is a b ha hb = elim (bound_lt_tells b a hb ha) [ inl g ↦ rw g.0 hb | inr g ↦ rw g.0 ha ]
+
+greater_bound_is : (a b : Bound) → IsBound a → IsBound b → IsBound (greater_bound a b)
+greater_bound_is a b ha hb = elim (bound_lt_tells b a hb ha) [ inl g ↦ rw g.0 ha | inr g ↦ rw g.0 hb ]
+
+-- ---- joined
+
+pub from_joined : (s t : Span) → IsSpan s → IsSpan t → from_place (joined s t) ≡ min (from_place s) (from_place t)
+unfolding joined
+from_joined s t hs ht = lesser_name_place s.lo t.lo hs.lo ht.lo
+
+pub to_joined : (s t : Span) → IsSpan s → IsSpan t → to_place (joined s t) ≡ max (to_place s) (to_place t)
+unfolding joined
+to_joined s t hs ht = greater_bound_place s.hi t.hi hs.hi ht.hi
+
+joined_lo : (s t : Span) → IsSpan s → IsSpan t → IsName (joined s t).lo
+unfolding joined
+joined_lo s t hs ht = lesser_name_is s.lo t.lo hs.lo ht.lo
+
+joined_hi : (s t : Span) → IsSpan s → IsSpan t → IsBound (joined s t).hi
+unfolding joined
+joined_hi s t hs ht = greater_bound_is s.hi t.hi hs.hi ht.hi
+
+pub joined_is : (s t : Span) → IsSpan s → IsSpan t → IsSpan (joined s t)
+joined_is s t hs ht =
+    span_of (joined s t) (joined_lo s t hs ht) (joined_hi s t hs ht)
+    (omega (arith, from_joined s t hs ht, to_joined s t hs ht, span_some s hs, span_some t ht))
+
+pub joined_holds : (s t : Span) (x : List ℕ) → IsSpan s → IsSpan t → IsName x → from_place t ≤ to_place s → from_place s ≤ to_place t → holds (joined s t) x ≡ (holds s x || holds t x)
+joined_holds s t x hs ht hx st ts =
+    holds_is (joined s t) x (joined_is s t hs ht) hx
+    ∙ ap (λ n. between n (to_place (joined s t)) (place x)) (from_joined s t hs ht)
+    ∙ ap (λ n. between (min (from_place s) (from_place t)) n (place x)) (to_joined s t hs ht)
+    ∙ joins (from_place s) (to_place s) (from_place t) (to_place t) (place x) (span_some s hs) (span_some t ht) st ts
+    ∙ ap (λ b. b || between (from_place t) (to_place t) (place x)) (sym (holds_is s x hs hx))
+    ∙ ap (λ b. holds s x || b) (sym (holds_is t x ht hx))
+
+pub joined_some : (s t : Span) → IsSpan s → IsSpan t → IsTrue (is_under (lesser_name s.lo t.lo) (greater_bound s.hi t.hi))
+unfolding joined
+joined_some s t hs ht = (joined_is s t hs ht).some
+
+-- ---- made of two ends
+
+pub unwrapped : (r : Option Span) (u s : Span) → r ≡ Some u → IfSome r (λ t. t ≡ s) → u ≡ s
+unwrapped r u s e h = let P : Option Span → Type 0 = λ o. IfSome o (λ t. t ≡ s) in subst P e h
+
+pub span_list_has : (lo : List ℕ) (hi : Bound) (x : List ℕ) → IsName lo → IsBound hi → IsName x → has (span_list lo hi) x ≡ between (place lo) (bound_place hi) (place x)
+unfolding span_list
+span_list_has lo hi x hl hh hx = elim (under_tells lo hi hl hh) [
+  | inl g ↦
+      let s : Span = record { lo = lo; hi = hi } in
+      rw g.0 (or_none (holds s x) ∙ holds_is s x (span_of s hl hh g.1) hx)
+  | inr g ↦ rw g.0 (sym (never (place lo) (bound_place hi) (place x) g.1))
+]
+  where
+    never : (a b v : ℕ) → b ≤ a → between a b v ≡ false
+    never a b v le = elim (between_tells a b v) [ inl g ↦ absurd (omega (arith, g.1, g.2)) | inr g ↦ g.0 ]
+
+-- what is made of two ends
+pub made_list : (lo : List ℕ) (hi : Bound) (r : Option Span) → is_some r ≡ is_under lo hi → IfSome r (λ t. t ≡ record { lo = lo; hi = hi }) → option_to_list r ≡ span_list lo hi
+unfolding span_list
+made_list lo hi None e h = rw (← e) refl
+made_list lo hi (Some t) e h = rw (← e) (ap (λ u. u ∷ []) h)
+
+-- ---- shared
+
+-- what two intervals share, or that they share nothing
+pub record Shares (s t : Span) (u : Span) : Type 0 where
+  pub list : shared_list s t ≡ u ∷ []
+  pub is_span : IsSpan u
+  pub from : from_place u ≡ max (from_place s) (from_place t)
+  pub to : to_place u ≡ min (to_place s) (to_place t)
+
+pub shared_tells : (s t : Span) → IsSpan s → IsSpan t → ((u : Span) × Shares s t u) ⊎ ((shared_list s t ≡ []) × (min (to_place s) (to_place t) ≤ max (from_place s) (from_place t)))
+unfolding shared_list span_list
+shared_tells s t hs ht =
+    let lo = greater_name s.lo t.lo in
+    let hi = lesser_bound s.hi t.hi in
+    let u : Span = record { lo = lo; hi = hi } in
+    let hl = greater_name_is s.lo t.lo hs.lo ht.lo in
+    let hh = lesser_bound_is s.hi t.hi hs.hi ht.hi in
+    let from = greater_name_place s.lo t.lo hs.lo ht.lo in
+    let to = lesser_bound_place s.hi t.hi hs.hi ht.hi in
+    elim (under_tells lo hi hl hh) [
+      | inl g ↦ inl (u, record { list = rw g.0 refl; is_span = span_of u hl hh g.1; from = from; to = to })
+      | inr g ↦ inr (rw g.0 refl, omega (arith, g.1, from, to))
+    ]
+
+pub shared_has : (s t : Span) (x : List ℕ) → IsSpan s → IsSpan t → IsName x → has (shared_list s t) x ≡ (holds s x && holds t x)
+unfolding shared_list
+shared_has s t x hs ht hx =
+    span_list_has (greater_name s.lo t.lo) (lesser_bound s.hi t.hi) x (greater_name_is s.lo t.lo hs.lo ht.lo) (lesser_bound_is s.hi t.hi hs.hi ht.hi) hx
+    ∙ ap (λ n. between n (bound_place (lesser_bound s.hi t.hi)) (place x)) (greater_name_place s.lo t.lo hs.lo ht.lo)
+    ∙ ap (λ n. between (max (from_place s) (from_place t)) n (place x)) (lesser_bound_place s.hi t.hi hs.hi ht.hi)
+    ∙ shares (from_place s) (to_place s) (from_place t) (to_place t) (place x)
+    ∙ ap (λ b. b && between (from_place t) (to_place t) (place x)) (sym (holds_is s x hs hx))
+    ∙ ap (λ b. holds s x && b) (sym (holds_is t x ht hx))

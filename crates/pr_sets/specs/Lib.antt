@@ -1,0 +1,4 @@
+pub mod Spans
+pub mod Ends
+pub mod Joining
+pub mod Text

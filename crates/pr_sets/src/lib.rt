@@ -1,0 +1,20 @@
+//! Sets of names, each kept as its one list of intervals.
+#![tactic(auto)]
+
+mod complement;
+mod ends;
+mod fault;
+mod intersection;
+mod joiner;
+mod law;
+mod meeting;
+mod name_set;
+mod print;
+mod read;
+#[cfg(test)]
+mod tests;
+mod union;
+
+pub use fault::SetFault;
+pub use law::{printed_sets_read_back, same_names_same_list};
+pub use name_set::NameSet;
