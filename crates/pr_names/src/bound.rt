@@ -4,16 +4,16 @@ ghost use Rattle.std.specs.Prelude.{◌≡◌};
 
 use crate::Name;
 
-/// A name, or the end, which is greater than every name.
-#[derive(Clone, Copy, Debug)]
+/// A name, or the end, which is greater than every name. It takes no memory, and each call is one comparison of names.
+#[derive(Clone, Copy, Debug, PartialEq, Eq)]
 pub enum Bound {
     At(Name),
     End,
 }
 
 impl Bound {
-    /// What stands in a bound is a name.
-    pub fn known(&self)
+    // What stands in a bound is a name.
+    pub(crate) fn known(&self)
         ensures { IsBound self.now }
     {
         if let Bound::At(name) = self {
@@ -21,7 +21,7 @@ impl Bound {
         }
     }
 
-    /// Whether the bound comes before the other.
+    /// Whether this bound comes before the other.
     pub fn is_below(&self, other: &Bound) -> bool
         ensures { result ≡ bound_lt self.now other.now }
     {
@@ -31,7 +31,7 @@ impl Bound {
         }
     }
 
-    /// Whether the name comes before the bound.
+    /// Whether the name comes before this bound.
     pub fn is_above(&self, name: &Name) -> bool
         ensures { result ≡ is_under name.now self.now }
     {

@@ -7,8 +7,8 @@ ghost use Rattle.std.specs.Prelude.{◌≡◌, ◌↔◌, IfOk, IfSome, IsTrue, 
 use crate::{Bound, IntervalFault, Name, text};
 use std::marker::Model;
 
-/// The names from one on and below a bound; there is at least one.
-#[derive(Clone, Copy, Debug)]
+/// The names from one on and before a bound, of which there is at least one. It takes no memory.
+#[derive(Clone, Copy, Debug, PartialEq, Eq)]
 pub struct Interval {
     lo: Name,
     hi: Bound,
@@ -27,7 +27,9 @@ impl Model for Interval {
 }
 
 impl Interval {
-    /// The interval that the bytes spell, or the first fault.
+    /// The interval that the bytes spell, or the first fault, in time linear in the bytes. A text is `*` for every
+    /// name, `p*` for the names that begin with `p`, `x` for one name, or `lo:hi` for the names from `lo` up to `hi`,
+    /// where a `hi` of `~` is the end; docs/SCRIPT.md has the form.
     pub fn read(bytes: &[u8]) -> Result<Interval, IntervalFault>
         ensures value { result ≡ interval_read bytes.now }
         ensures interval { IfOk result (λ i. IsSpan i) }
@@ -37,7 +39,7 @@ impl Interval {
         Ok(interval)
     }
 
-    /// None exactly where the bound does not come after the name.
+    /// The interval from a name up to a bound; None exactly where the bound does not come after the name.
     pub fn new(lo: Name, hi: Bound) -> Option<Interval>
         ensures some { is_some result ≡ is_under lo hi }
         ensures value { IfSome result (λ i. i ≡ record { lo = lo; hi = hi }) }
@@ -51,6 +53,7 @@ impl Interval {
         }
     }
 
+    /// The least name of the interval.
     pub fn lo(&self) -> Name
         ensures value { result ≡ self.now.lo }
         ensures interval { IsSpan self.now }
@@ -58,6 +61,7 @@ impl Interval {
         self.lo
     }
 
+    /// The bound before which its names come.
     pub fn hi(&self) -> Bound
         ensures value { result ≡ self.now.hi }
         ensures interval { IsSpan self.now }
@@ -65,13 +69,14 @@ impl Interval {
         self.hi
     }
 
+    /// Whether the name is in the interval, by two comparisons.
     pub fn has(&self, name: &Name) -> bool
         ensures { result ≡ holds self.now name.now }
     {
         !name.is_below(&self.lo) && self.hi.is_above(name)
     }
 
-    /// Whether some name is in both.
+    /// Whether some name is in both intervals, by two comparisons.
     pub fn meets(&self, other: &Interval) -> bool
         ensures { IsTrue result ↔ Overlap self.now other.now }
     {

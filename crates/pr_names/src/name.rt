@@ -1,5 +1,5 @@
 // A name in a fixed array.
-ghost use Rattle.pr_names.specs.Above.{after_of, after_all_of, IsEndOfAll, IsLeastAbove, IsLeastAboveAll};
+ghost use Rattle.pr_names.specs.Above.{IsEndOfAll, IsLeastAbove, IsLeastAboveAll, after_all_of, after_of};
 ghost use Rattle.pr_names.specs.Bound.{IsBound};
 ghost use Rattle.pr_names.specs.Name.{IsName, Allowed};
 ghost use Rattle.pr_names.specs.Order.{name_lt};
@@ -9,16 +9,19 @@ ghost use Rattle.std.specs.List.{position};
 ghost use Rattle.pr_names.specs.Byte.{allowed};
 ghost use Rattle.std.specs.Cmp.Lexicographic.{slice_cmp, texts_po, texts_ties};
 ghost use Rattle.std.specs.Ordering.{nat_cmp};
-ghost use Rattle.std.proofs.Common.{refl};
+ghost use Rattle.std.proofs.Common.{refl, rules};
+ghost use Rattle.std.specs.Hash as fed;
+ghost use Rattle.std.specs.Cmp.Rules.{hashing};
 ghost use Rattle.std.proofs.lemmas.Cmp.{nat_list_cmp_total, nat_list_eq_equiv};
 ghost use Rattle.std.specs.Cmp.{partial_equiv_from_equiv};
 ghost use lib.Pointwise.{pointwise};
 
 use crate::{Bound, byte};
 use std::cmp::Ordering;
+use std::hash::{Hash, Hasher};
 use std::marker::Model;
 
-/// Why bytes are no name.
+/// Why bytes are no name: there are none, there are more than 64, or the first that is not allowed.
 #[derive(Clone, Copy, Debug, PartialEq, Eq)]
 pub enum NameFault {
     Empty,
@@ -26,7 +29,8 @@ pub enum NameFault {
     BadByte { at: usize },
 }
 
-/// 1 to 64 allowed bytes, which take no memory.
+/// The name of an object: 1 to 64 bytes of `a-z 0-9 - . / _`, ordered by bytes. It lies in a fixed array, is `Copy`,
+/// and no call takes memory; each takes time linear in the bytes.
 #[derive(Clone, Copy, Debug)]
 pub struct Name {
     bytes: [u8; 64],
@@ -68,13 +72,14 @@ impl Name {
         }
     }
 
-    /// The name `-`, which comes before every other.
+    /// The name `-`, before which none comes.
     pub fn least() -> Name
         ensures { result ≡ 45 ∷ [] }
     {
         of(b"-")
     }
 
+    /// Its bytes.
     pub fn bytes(&self) -> &[u8]
         ensures value { result.now ≡ self.now }
         ensures name { IsName self.now }
@@ -82,7 +87,7 @@ impl Name {
         &self.bytes[..self.len]
     }
 
-    /// The least name above this one.
+    /// The least name greater than this one, or the end: the name followed by `-`, where it has fewer than 64 bytes.
     pub fn after(&self) -> Bound
         ensures value { result ≡ after_of self.now }
         ensures least { IsLeastAbove self.now result }
@@ -96,7 +101,8 @@ impl Name {
         }
     }
 
-    /// The least name above every name that begins with this one.
+    /// The least name greater than every name that begins with this one, or the end: trailing `z` bytes are dropped,
+    /// and the last byte before them is replaced by the next allowed one.
     pub fn after_all(&self) -> Bound
         ensures value { result ≡ after_all_of self.now }
         ensures least { IsLeastAboveAll self.now result }
@@ -106,7 +112,7 @@ impl Name {
         raised(self.bytes())
     }
 
-    /// Whether this name comes before the other.
+    /// Whether this name comes before the other, as `<` says.
     pub fn is_below(&self, other: &Name) -> bool
         ensures { result ≡ name_lt self.now other.now }
     {
@@ -149,6 +155,16 @@ impl Ord for Name {
 
     fn cmp(&self, other: &Name) -> Ordering {
         self.bytes().cmp(other.bytes())
+    }
+}
+
+impl Hash for Name {
+    ghost hash_input = { fed.slice fed.u8 };
+
+    ghost respects_eq = { Prim.search (hashing, rules) };
+
+    fn hash<H: Hasher>(&self, state: &mut H) {
+        self.bytes().hash(state);
     }
 }
 

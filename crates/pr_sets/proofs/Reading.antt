@@ -113,7 +113,7 @@ few_enough bs most all h lt e =
 
 -- ---- intervals put in order
 
-spans_of : (ss : List Span) → All IsSpan ss → Spans ss
+pub spans_of : (ss : List Span) → All IsSpan ss → Spans ss
 spans_of [] h = tt
 spans_of (s ∷ ss) h = (All-head IsSpan s ss h, spans_of ss (All-tail IsSpan s ss h))
 

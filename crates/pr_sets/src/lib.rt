@@ -2,6 +2,7 @@
 #![tactic(auto)]
 
 mod complement;
+mod containment;
 mod ends;
 mod fault;
 mod intersection;
@@ -16,5 +17,5 @@ mod tests;
 mod union;
 
 pub use fault::SetFault;
-pub use law::{printed_sets_read_back, same_names_same_list};
+pub use law::{lists_have_the_names_of_their_parts, printed_sets_read_back, same_names_same_list};
 pub use name_set::NameSet;

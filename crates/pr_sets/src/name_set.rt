@@ -2,18 +2,20 @@
 ghost use Rattle.pr_names.specs.Name.{IsName};
 ghost use Rattle.pr_sets.specs.Spans.{IsComplement, IsIntersection, IsSet, IsUnion, Meet, Within, has};
 ghost use Rattle.pr_sets.specs.Text.{AddsFront, set_read, set_text};
-ghost use Rattle.std.specs.Prelude.{◌≡◌, ℕ, List, [], ◌∷◌, ◌++◌, ◌⊎◌, length, IfOk, OnOk, OnErr, ◌↔◌, IsTrue, MatchBool, MatchResult, Ok, Err, false};
+ghost use Rattle.std.specs.Prelude.{◌≡◌, ℕ, List, [], ◌∷◌, ◌++◌, ◌⊎◌, length, IfErr, IfOk, OnOk, OnErr, ◌↔◌, IsTrue, MatchBool, Ok, Err, false};
 
 use crate::complement::complement;
 use crate::intersection::intersection;
 use crate::union::union;
-use crate::{SetFault, meeting, print, read};
+use crate::{SetFault, containment, meeting, print, read};
 use pr_names::{Interval, Name};
 use pr_stamps::{NoMemory, Seq};
 use std::alloc::Global;
 use std::marker::Model;
 
-/// A set of names: its intervals in order, each with a gap before the next.
+/// A set of names, kept as its one list of intervals: each ends before the next begins, with a name between, so that
+/// two sets with the same names are the same list. An interest set, a subscription, the target of an invalidation and
+/// the dark part of a point are name sets.
 #[derive(Drop)]
 pub struct NameSet {
     parts: Seq<Interval>,
@@ -32,34 +34,13 @@ impl Model for NameSet {
 }
 
 impl NameSet {
+    /// The set of no name, which takes no memory.
     pub fn empty(alloc: Global) -> NameSet
         ensures { result ≡ [] }
     {
         NameSet {
             parts: Seq::new(alloc),
         }
-    }
-
-    pub fn is_empty(&self) -> bool
-        ensures list { IsTrue result ↔ (self.now ≡ []) }
-        ensures names { MatchBool result ((o : List ℕ) → IsName o → has self.now o ≡ false) ((o : List ℕ) × IsName o × IsTrue (has self.now o)) }
-    {
-        self.parts().is_empty()
-    }
-
-    /// How many intervals it has.
-    pub fn count(&self) -> usize
-        ensures { result ≡ length self.now }
-    {
-        self.parts.as_slice().len()
-    }
-
-    /// The one list of its intervals.
-    pub fn parts(&self) -> &[Interval]
-        ensures value { result.now ≡ self.now }
-        ensures set { IsSet self.now }
-    {
-        self.parts.as_slice()
     }
 
     /// The set of the names in one interval.
@@ -72,6 +53,30 @@ impl NameSet {
         Ok(NameSet { parts })
     }
 
+    /// Whether it has no name, in constant time.
+    pub fn is_empty(&self) -> bool
+        ensures list { IsTrue result ↔ (self.now ≡ []) }
+        ensures names { MatchBool result ((o : List ℕ) → IsName o → has self.now o ≡ false) ((o : List ℕ) × IsName o × IsTrue (has self.now o)) }
+    {
+        self.parts().is_empty()
+    }
+
+    /// How many intervals it has, in constant time.
+    pub fn count(&self) -> usize
+        ensures { result ≡ length self.now }
+    {
+        self.parts.len()
+    }
+
+    /// The one list of its intervals, in constant time.
+    pub fn parts(&self) -> &[Interval]
+        ensures value { result.now ≡ self.now }
+        ensures set { IsSet self.now }
+    {
+        self.parts.as_slice()
+    }
+
+    /// Whether it has the name, in time linear in its intervals.
     pub fn has(&self, name: &Name) -> bool
         ensures { result ≡ has self.now name.now }
     {
@@ -83,21 +88,21 @@ impl NameSet {
         false
     }
 
-    /// Whether some name is in both sets.
+    /// Whether some name is in both sets, in time linear in the intervals of both.
     pub fn meets(&self, other: &NameSet) -> bool
         ensures { IsTrue result ↔ Meet (has self.now) (has other.now) }
     {
         meeting::meets(self.parts(), other.parts())
     }
 
-    /// Whether each name of this set is in the other.
+    /// Whether each name of this set is in the other, in time linear in the intervals of both.
     pub fn within(&self, other: &NameSet) -> bool
         ensures { IsTrue result ↔ Within (has self.now) (has other.now) }
     {
-        meeting::within(self.parts(), other.parts())
+        containment::within(self.parts(), other.parts())
     }
 
-    /// The names that are not in the set.
+    /// The names that are not in the set, in time linear in its intervals.
     pub fn complement(&self, alloc: Global) -> Result<NameSet, NoMemory>
         ensures { IfOk result (IsComplement self.now) }
     {
@@ -105,7 +110,7 @@ impl NameSet {
         Ok(NameSet { parts })
     }
 
-    /// The names that are in both sets.
+    /// The names that are in both sets, in time linear in the intervals of both.
     pub fn intersect(&self, alloc: Global, other: &NameSet) -> Result<NameSet, NoMemory>
         ensures { IfOk result (IsIntersection self.now other.now) }
     {
@@ -113,7 +118,7 @@ impl NameSet {
         Ok(NameSet { parts })
     }
 
-    /// The names that are in one of the sets.
+    /// The names that are in one of the sets, in time linear in the intervals of both.
     pub fn union(&self, alloc: Global, other: &NameSet) -> Result<NameSet, NoMemory>
         ensures { IfOk result (IsUnion self.now other.now) }
     {
@@ -121,6 +126,7 @@ impl NameSet {
         Ok(NameSet { parts })
     }
 
+    /// A set with the same names, in time linear in the intervals.
     pub fn copy(&self, alloc: Global) -> Result<NameSet, NoMemory>
         ensures { IfOk result (λ set. set ≡ self.now) }
     {
@@ -128,7 +134,7 @@ impl NameSet {
         Ok(NameSet { parts })
     }
 
-    /// Adds the text of the set.
+    /// Adds the text of the set, in time linear in it. After a refusal a beginning of the text was added.
     pub fn print(&self, out: &mut Seq<u8>) -> Result<(), NoMemory>
         ensures ok { OnOk result (out.new ≡ out.old ++ set_text self.now) }
         ensures err { OnErr result (AddsFront out.old out.new (set_text self.now)) }
@@ -136,9 +142,12 @@ impl NameSet {
         print::print(self.parts(), out)
     }
 
-    /// The set that the bytes spell, or the first fault.
+    /// The set of a text, or the first fault: `~` is the empty set, and else the text is at most `most` intervals,
+    /// joined by commas, in any order and overlapping at will (docs/SCRIPT.md). The items are read once, and put in
+    /// order by one sort.
     pub fn read(alloc: Global, bytes: &[u8], most: usize) -> Result<NameSet, SetFault>
-        ensures { MatchResult result (λ set. set_read bytes.now most ≡ Ok set) (λ fault. (fault ≡ SetFault.NoMemory) ⊎ (set_read bytes.now most ≡ Err fault)) }
+        ensures ok { IfOk result (λ set. set_read bytes.now most ≡ Ok set) }
+        ensures err { IfErr result (λ fault. (fault ≡ SetFault.NoMemory) ⊎ (set_read bytes.now most ≡ Err fault)) }
     {
         let parts = read::read(alloc, bytes, most)?;
         Ok(NameSet { parts })

@@ -79,11 +79,7 @@ fn is_whole(part: &Interval) -> bool
 fn are_same(bound: &Bound, other: &Bound) -> bool
     ensures { result ≡ same_bound bound.now other.now }
 {
-    match (bound, other) {
-        (Bound::At(a), Bound::At(b)) => a == b,
-        (Bound::End, Bound::End) => true,
-        _ => false,
-    }
+    bound == other
 }
 
 // Adds the bytes, or nothing.

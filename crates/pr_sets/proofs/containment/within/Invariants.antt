@@ -1,7 +1,7 @@
 use Rattle.std.proofs.Common.{◌≤◌, ◌+◌, ◌-◌, drop, length}
 use Rattle.std.specs.Prelude.{◌↔◌}
 use Rattle.pr_sets.specs.Spans.{Within, has}
-use Rattle.pr_sets.proofs.meeting.within.Given as goal
+use Rattle.pr_sets.proofs.containment.within.Given as goal
 
 abbrev pub invariant-loop-i : goal.invariant-loop-i
 invariant-loop-i l = record {

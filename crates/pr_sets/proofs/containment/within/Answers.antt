@@ -2,8 +2,8 @@ use Rattle.std.proofs.Common.{arith, refl, sym, ◌∙◌}
 use Rattle.std.proofs.lemmas.Bool.{false≢true}
 use Rattle.pr_names.proofs.Places.{bound_le_places, bound_lt_places, le_places, lt_places}
 use Rattle.pr_sets.proofs.Meetings.{right_step, left_step, not_within, within_end}
-use Rattle.pr_sets.proofs.meeting.within.Goals as goal
-use Rattle.pr_sets.proofs.meeting.within.Goals.{then-loop-i-test+else-j-b, else-loop-i-test}
+use Rattle.pr_sets.proofs.containment.within.Goals as goal
+use Rattle.pr_sets.proofs.containment.within.Goals.{then-loop-i-test+else-j-b, else-loop-i-test}
 
 pub loop-i-preserved-then-is_below : goal.loop-i-preserved-then-is_below
 loop-i-preserved-then-is_below c = record {
