@@ -1,0 +1,136 @@
+-- What the map of rows has at a name.
+use Rattle.std.proofs.Common.{◌≡◌, ℕ, List, [], ◌∷◌, Option, None, Some, Bool, true, false, cond, refl, sym, ◌∙◌, ap, subst, map, filter, find, not, ◌&&◌}
+use Rattle.std.specs.Map.Calls.{RetainsPairs}
+use Rattle.std.specs.Map.{lookup, keys_of}
+use Rattle.std.specs.List.{slice_get}
+use Rattle.std.specs.Option.{option_map}
+use Rattle.std.specs.Ordering.{is_eq, is_lt, nat_cmp}
+use Rattle.std.specs.Cmp.Lexicographic.{slice_cmp}
+use Rattle.std.specs.Str.{bytes_eq}
+use Rattle.std.proofs.lemmas.Map.Text.{is_eq-slice_cmp}
+use Rattle.std.proofs.lemmas.Slice.Eq.{bytes_eq-Decides}
+use Rattle.pr_names.specs.Order.{name_lt}
+use Rattle.pr_names.proofs.Places.{lt_cmp}
+use Rattle.pr_stamps.specs.declared.mark.Mark.{Mark}
+use Rattle.pr_vectors.specs.Vector.{join_of}
+use Rattle.pr_marks.specs.declared.newest.Newest.{Newest}
+use Rattle.pr_marks.specs.Row.{Kept, above_floor, is_covered, with_mark}
+use Rattle.pr_marks.specs.Table.{Table, IsForgotten, IsRaised, IsMarked, marks_in, raised_to, row_of}
+
+same_lookup : {K X : Type 0} (f g : K → Bool) → ((k : K) → f k ≡ g k) → (es : List (K × X)) → lookup f es ≡ lookup g es
+same_lookup f g same [] = refl
+same_lookup f g same (e ∷ es) = rw (same e.0) (rw (same_lookup f g same es) refl)
+
+-- what the map has at a name, by the order of names
+abbrev pub at_name : {X : Type 0} → List (List ℕ × X) → List ℕ → Option X
+at_name es o = lookup (λ k. is_eq (slice_cmp nat_cmp o k)) es
+
+pub row_at : {X : Type 0} (o : List ℕ) (es : List (List ℕ × X)) → lookup (bytes_eq o) es ≡ at_name es o
+row_at o es = same_lookup _ _ (λ k. sym (is_eq-slice_cmp o k)) es
+
+-- a row was taken out, and another put in
+pub put_back : {X : Type 0} (name : List ℕ) (before between after : List (List ℕ × X)) (row : X) → ((q : List ℕ) → at_name between q ≡ cond (is_eq (slice_cmp nat_cmp name q)) None (at_name before q)) → ((q : List ℕ) → at_name after q ≡ cond (is_eq (slice_cmp nat_cmp name q)) (Some row) (at_name between q)) → (o : List ℕ) → lookup (bytes_eq o) after ≡ cond (bytes_eq name o) (Some row) (lookup (bytes_eq o) before)
+put_back {X = X} name before between after row out in_ o =
+    row_at o after ∙ in_ o ∙ ap (λ r. cond (is_eq (slice_cmp nat_cmp name o)) (Some row) r) (out o) ∙ joined (is_eq (slice_cmp nat_cmp name o)) (bytes_eq name o) (is_eq-slice_cmp name o) (at_name before o) (lookup (bytes_eq o) before) (sym (row_at o before))
+  where
+    joined : (a b : Bool) → a ≡ b → (r s : Option X) → r ≡ s → cond a (Some row) (cond a None r) ≡ cond b (Some row) s
+    joined true b e r s same = rw (← e) refl
+    joined false b e r s same = rw (← e) same
+
+newest_cond : (b : Bool) (row : Kept) (r : Option Kept) → option_map (λ (k : Kept). k.newest) (cond b (Some row) r) ≡ cond b (Some row.newest) (option_map (λ (k : Kept). k.newest) r)
+newest_cond true row r = refl
+newest_cond false row r = refl
+
+marks_cond : (b : Bool) (row : Kept) (r : Option Kept) → marks_in (cond b (Some row) r) ≡ cond b row.marks (marks_in r)
+marks_cond true row r = refl
+marks_cond false row r = refl
+
+-- at the name itself it is the name's own
+own : {X : Type 0} (f : List ℕ → X) (name o : List ℕ) (b : Bool) → b ≡ bytes_eq name o → cond b (f name) (f o) ≡ f o
+own f name o true e = ap f ((bytes_eq-Decides name o).0 (sym e))
+own f name o false e = refl
+
+pub is_raised : (a b : Table) (name : List ℕ) (to : Newest) (row : Kept) (old : Option Kept) → b.floor ≡ a.floor → ((o : List ℕ) → row_of b o ≡ cond (bytes_eq name o) (Some row) (row_of a o)) → old ≡ row_of a name → row.newest ≡ raised_to (option_map (λ (k : Kept). k.newest) old) to → row.marks ≡ marks_in old → IsRaised a b name to
+is_raised a b name to row old floor rows was newest marks = record {
+  floor = floor;
+  newest = λ o. ap (option_map (λ (k : Kept). k.newest)) (rows o) ∙ newest_cond (bytes_eq name o) row (row_of a o) ∙ ap (λ n. cond (bytes_eq name o) (Some n) (option_map (λ (k : Kept). k.newest) (row_of a o))) (newest ∙ ap (λ r. raised_to (option_map (λ (k : Kept). k.newest) r) to) was);
+  marks = λ o. ap marks_in (rows o) ∙ marks_cond (bytes_eq name o) row (row_of a o) ∙ ap (λ m. cond (bytes_eq name o) m (marks_in (row_of a o))) (marks ∙ ap marks_in was) ∙ own (λ n. marks_in (row_of a n)) name o (bytes_eq name o) refl;
+}
+
+pub is_marked : (a b : Table) (name : List ℕ) (mark : Mark) (gone : Bool) (row first : Kept) (old : Option Kept) (to : Newest) → b.floor ≡ a.floor → ((o : List ℕ) → row_of b o ≡ cond (bytes_eq name o) (Some row) (row_of a o)) → old ≡ row_of a name → to ≡ record { stamp = mark.stamp; gone = gone } → first.newest ≡ raised_to (option_map (λ (k : Kept). k.newest) old) to → first.marks ≡ marks_in old → row.newest ≡ first.newest → row.marks ≡ cond (is_covered a.floor mark.stamp) first.marks (with_mark first.marks mark) → IsMarked a b name mark gone
+is_marked a b name mark gone row first old to floor rows was is newest marks kept added = record {
+  floor = floor;
+  newest = λ o. ap (option_map (λ (k : Kept). k.newest)) (rows o) ∙ newest_cond (bytes_eq name o) row (row_of a o) ∙ ap (λ n. cond (bytes_eq name o) (Some n) (option_map (λ (k : Kept). k.newest) (row_of a o))) (kept ∙ newest ∙ ap (λ r. raised_to (option_map (λ (k : Kept). k.newest) r) to) was ∙ ap (raised_to (option_map (λ (k : Kept). k.newest) (row_of a name))) is);
+  marks = λ o. ap marks_in (rows o) ∙ marks_cond (bytes_eq name o) row (row_of a o) ∙ ap (λ m. cond (bytes_eq name o) m (marks_in (row_of a o))) (added ∙ ap (λ m. cond (is_covered a.floor mark.stamp) m (with_mark m mark)) (marks ∙ ap marks_in was));
+}
+
+-- ---- forgetting
+
+abbrev pub forgot : List ℕ → Kept → Kept
+forgot floor k = record { newest = k.newest; marks = above_floor floor k.marks }
+
+abbrev pub forgot_all : List ℕ → List (List ℕ × Kept) → List (List ℕ × Kept)
+forgot_all floor es = map (λ (e : List ℕ × Kept). (e.0, forgot floor e.1)) es
+
+-- each row was kept, and forgot what the floor covers
+pub retained : {F : Type 0} (T : F → List ℕ → Kept → Bool → Kept → F → Type 0) (f : F) (floor : List ℕ) → ((k : List ℕ) (v : Kept) (b : Bool) (w : Kept) (g : F) → T f k v b w g → (b ≡ true) × ((w ≡ forgot floor v) × (g ≡ f))) → (es ks : List (List ℕ × Kept)) → RetainsPairs T f es ks → ks ≡ forgot_all floor es
+retained T f floor says [] ks h = h
+retained T f floor says (e ∷ es) ks (b, w, g, rest, call, more, is) =
+    let said : (b ≡ true) × ((w ≡ forgot floor e.1) × (g ≡ f)) = says e.0 e.1 b w g call in
+    is ∙ ap (λ x. cond x ((e.0, w) ∷ rest) rest) said.0 ∙ ap (λ x. (e.0, x) ∷ rest) said.1.0 ∙ ap (λ x. (e.0, forgot floor e.1) ∷ x) (retained T f floor says es rest (subst (λ u. RetainsPairs T u es rest) said.1.1 more))
+
+forgot_cond : (floor : List ℕ) (b : Bool) (k : Kept) (r s : Option Kept) → r ≡ option_map (forgot floor) s → cond b (Some (forgot floor k)) r ≡ option_map (forgot floor) (cond b (Some k) s)
+forgot_cond floor true k r s is = refl
+forgot_cond floor false k r s is = is
+
+row_forgot : (floor o : List ℕ) (es : List (List ℕ × Kept)) → lookup (bytes_eq o) (forgot_all floor es) ≡ option_map (forgot floor) (lookup (bytes_eq o) es)
+row_forgot floor o [] = refl
+row_forgot floor o (e ∷ es) = forgot_cond floor (bytes_eq o e.0) e.1 _ _ (row_forgot floor o es)
+
+newest_forgot : (floor : List ℕ) (r : Option Kept) → option_map (λ (k : Kept). k.newest) (option_map (forgot floor) r) ≡ option_map (λ (k : Kept). k.newest) r
+newest_forgot floor None = refl
+newest_forgot floor (Some k) = refl
+
+marks_forgot : (floor : List ℕ) (r : Option Kept) → marks_in (option_map (forgot floor) r) ≡ above_floor floor (marks_in r)
+marks_forgot floor None = refl
+marks_forgot floor (Some k) = refl
+
+pub is_forgotten : (a b : Table) (floor : List ℕ) → b.floor ≡ join_of a.floor floor → b.rows ≡ forgot_all floor a.rows → IsForgotten a b floor
+is_forgotten a b floor is rows = record {
+  floor = is;
+  newest = λ o. ap (λ es. option_map (λ (k : Kept). k.newest) (lookup (bytes_eq o) es)) rows ∙ ap (option_map (λ (k : Kept). k.newest)) (row_forgot floor o a.rows) ∙ newest_forgot floor (row_of a o);
+  marks = λ o. ap (λ es. marks_in (lookup (bytes_eq o) es)) rows ∙ ap marks_in (row_forgot floor o a.rows) ∙ marks_forgot floor (row_of a o);
+}
+
+-- ---- the next name
+
+heads : {A : Type 0} (x e : A) (xs t : List A) → x ∷ xs ≡ e ∷ t → x ≡ e
+heads x e xs t is = cc
+
+-- the first entry whose key passes has the first key that passes
+pub first_passing : {X : Type 0} (p q : List ℕ → Bool) → ((k : List ℕ) → p k ≡ q k) → (es t : List (List ℕ × X)) (e : List ℕ × X) → filter (λ (x : List ℕ × X). p x.0) es ≡ e ∷ t → find q (keys_of es) ≡ Some e.0
+first_passing p q same [] t e is = cc
+first_passing {X = X} p q same (x ∷ es) t e is = step (p x.0) (same x.0) is (first_passing p q same es t e)
+  where
+    step : (b : Bool) → b ≡ q x.0 → cond b (x ∷ filter (λ (y : List ℕ × X). p y.0) es) (filter (λ (y : List ℕ × X). p y.0) es) ≡ e ∷ t → (filter (λ (y : List ℕ × X). p y.0) es ≡ e ∷ t → find q (keys_of es) ≡ Some e.0) → cond (q x.0) (Some x.0) (find q (keys_of es)) ≡ Some e.0
+    step true said is more = rw (← said) (ap (λ (y : List ℕ × X). Some y.0) (heads x e _ t is))
+    step false said is more = rw (← said) (more is)
+
+pub none_passing : {X : Type 0} (p q : List ℕ → Bool) → ((k : List ℕ) → p k ≡ q k) → (es : List (List ℕ × X)) → filter (λ (x : List ℕ × X). p x.0) es ≡ [] → find q (keys_of es) ≡ None
+none_passing p q same [] is = refl
+none_passing {X = X} p q same (x ∷ es) is = step (p x.0) (same x.0) is (none_passing p q same es)
+  where
+    step : (b : Bool) → b ≡ q x.0 → cond b (x ∷ filter (λ (y : List ℕ × X). p y.0) es) (filter (λ (y : List ℕ × X). p y.0) es) ≡ [] → (filter (λ (y : List ℕ × X). p y.0) es ≡ [] → find q (keys_of es) ≡ None) → cond (q x.0) (Some x.0) (find q (keys_of es)) ≡ None
+    step true said is more = cc
+    step false said is more = rw (← said) (more is)
+
+pub head_key : {X : Type 0} (es : List (List ℕ × X)) (k : List ℕ) (v : X) → slice_get es 0 ≡ Some (k, v) → Some k ≡ find (λ (_ : List ℕ). true) (keys_of es)
+head_key [] k v is = cc
+head_key (e ∷ es) k v is = cc
+
+pub after_name : (a o : List ℕ) → (is_lt (slice_cmp nat_cmp a o) && not false) ≡ name_lt a o
+after_name a o = and_true (is_lt (slice_cmp nat_cmp a o)) ∙ sym (lt_cmp a o)
+  where
+    and_true : (b : Bool) → (b && true) ≡ b
+    and_true true = refl
+    and_true false = refl

@@ -1,0 +1,40 @@
+-- What is kept of a name.
+use Rattle.std.specs.Prelude.{ℕ, Bool, not, List, [], ◌∷◌, ◌||◌, ◌&&◌, nat_lt, nat_le, nat_eq, cond, filter, AllPairs, IsTrue}
+use Rattle.pr_stamps.specs.Point.{Point}
+use Rattle.pr_stamps.specs.declared.mark.Mark.{Mark}
+use Rattle.pr_vectors.specs.Vector.{clock_of}
+use Rattle.pr_marks.specs.declared.newest.Newest.{Newest}
+
+-- the newest known stamp, and the marks in the order of their stamps
+pub record Kept : Type 0 where
+  pub newest : Newest
+  pub marks : List Mark
+
+-- the first stamp comes before the second
+abbrev pub is_before : Point → Point → Bool
+is_before s t = nat_lt s.clock t.clock || (nat_eq s.clock t.clock && nat_lt s.node t.node)
+
+abbrev pub is_same : Point → Point → Bool
+is_same s t = nat_eq s.clock t.clock && nat_eq s.node t.node
+
+-- the vector covers the stamp
+abbrev pub is_covered : List ℕ → Point → Bool
+is_covered v s = nat_le s.clock (clock_of v s.node)
+
+-- the later of the two; of equal stamps the first
+abbrev pub later : Newest → Newest → Newest
+later a b = cond (is_before a.stamp b.stamp) b a
+
+-- each stamp comes before all later ones
+abbrev pub Rises : List Mark → Type 0
+Rises marks = AllPairs (λ (x : Mark) (y : Mark). IsTrue (is_before x.stamp y.stamp)) marks
+
+-- the marks with one more, in its place; a mark with its stamp stays
+abbrev pub with_mark : List Mark → Mark → List Mark
+with_mark [] m = m ∷ []
+with_mark (x ∷ xs) m =
+    cond (is_before x.stamp m.stamp) (x ∷ with_mark xs m) (cond (is_before m.stamp x.stamp) (m ∷ x ∷ xs) (x ∷ xs))
+
+-- the marks that the floor does not cover
+abbrev pub above_floor : List ℕ → List Mark → List Mark
+above_floor floor marks = filter (λ (m : Mark). not (is_covered floor m.stamp)) marks

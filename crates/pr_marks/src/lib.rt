@@ -1,0 +1,12 @@
+//! By name the newest known stamp and the marks that the floor does not cover, and the conflicts that marks show.
+#![tactic(auto)]
+
+mod conflicts;
+mod marks;
+mod newest;
+mod row;
+#[cfg(test)]
+mod tests;
+
+pub use marks::Marks;
+pub use newest::Newest;

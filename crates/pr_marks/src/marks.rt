@@ -1,0 +1,201 @@
+// The table of marks.
+ghost use Rattle.pr_marks.specs.Pairs.{pairs_of};
+ghost use Rattle.pr_marks.specs.Row.{Kept, Rises, is_covered, with_mark};
+ghost use Rattle.pr_marks.specs.Table.{IsForgotten, IsMarked, IsRaised, is_after, marks_in, marks_of, names_of, newest_of, raised_to};
+ghost use Rattle.pr_vectors.specs.Vector.{IsVector, zero_vector};
+ghost use Rattle.std.specs.Prelude.{◌≡◌, [], true, false, None, Some, IfOk, IsErr, OnErr, OnOk, cond, find};
+ghost use Rattle.std.specs.Option.{option_map};
+ghost use Rattle.std.specs.BTreeMap.{keys};
+
+use crate::row::{Row, is_covered};
+use crate::{Newest, conflicts};
+use pr_names::Name;
+use pr_stamps::{Mark, NoMemory, Seq, Stamp};
+use pr_vectors::Vector;
+use std::alloc::Global;
+use std::collections::BTreeMap;
+use std::marker::Model;
+use std::ops::Bound;
+
+/// By name the newest known stamp and the marks that the floor does not cover. After want of memory it is spent: each
+/// later call that takes memory is refused, and of what it holds nothing is said.
+#[derive(Drop)]
+pub struct Marks {
+    alloc: Global,
+    rows: BTreeMap<Name, Row>,
+    floor: Vector,
+    spent: bool,
+}
+
+impl Model for Marks {
+    ghost use Rattle.pr_marks.specs.Table.{Table};
+
+    ghost Value = { Table };
+
+    ghost view = { λ m. record { rows = m.rows.entries; floor = m.floor; spent = m.spent } };
+}
+
+impl Marks {
+    /// An empty table with the floor zero, which takes no memory.
+    pub fn new(alloc: Global) -> Marks
+        ensures { result ≡ record { rows = []; floor = zero_vector; spent = false } }
+    {
+        Marks {
+            alloc,
+            rows: BTreeMap::new(alloc),
+            floor: Vector::zero(),
+            spent: false,
+        }
+    }
+
+    /// Knows of a write: its stamp, and its mark where the floor does not cover it. It takes time logarithmic in the
+    /// names, and linear in the marks of the name after this one.
+    pub fn add(&mut self, name: &Name, mark: &Mark, gone: bool) -> Result<(), NoMemory>
+        ensures ok { OnOk result (IsMarked self.old self.new name.now mark.now gone) }
+        ensures works { OnOk result (self.new.spent ≡ false) }
+        ensures err { OnErr result (self.new.spent ≡ true) }
+        ensures spent { self.old.spent ≡ true → IsErr result }
+    {
+        if self.spent {
+            return Err(NoMemory);
+        }
+        self.spent = true;
+        let row = raised(self.alloc, self.rows.remove(name), &newest_of(mark, gone));
+        let row = marked(row, &self.floor, mark)?;
+        self.rows.insert(*name, row)?;
+        self.spent = false;
+        Ok(())
+    }
+
+    /// Knows of a stamp of the name, in time logarithmic in the names.
+    pub fn raise(&mut self, name: &Name, newest: &Newest) -> Result<(), NoMemory>
+        ensures ok { OnOk result (IsRaised self.old self.new name.now newest.now) }
+        ensures works { OnOk result (self.new.spent ≡ false) }
+        ensures err { OnErr result (self.new.spent ≡ true) }
+        ensures spent { self.old.spent ≡ true → IsErr result }
+    {
+        if self.spent {
+            return Err(NoMemory);
+        }
+        self.spent = true;
+        let row = raised(self.alloc, self.rows.remove(name), newest);
+        self.rows.insert(*name, row)?;
+        self.spent = false;
+        Ok(())
+    }
+
+    /// Raises the floor, and forgets the marks that it covers, in time linear in the names and their marks.
+    pub fn forget(&mut self, floor: &Vector)
+        ensures forgotten { IsForgotten self.old self.new floor.now }
+        ensures spent { self.new.spent ≡ self.old.spent }
+    {
+        self.rows.retain(|_, row| {
+            row.forget(floor);
+            true
+        });
+        self.floor = self.floor.join(floor);
+    }
+
+    /// The join of the floors that were forgotten.
+    pub fn floor(&self) -> Vector
+        ensures value { result ≡ self.now.floor }
+        ensures range { IsVector result }
+    {
+        let _ = self.floor.at(0);
+        self.floor
+    }
+
+    /// The newest known stamp of the name, in time logarithmic in the names; None exactly where none is known.
+    pub fn newest(&self, name: &Name) -> Option<Newest>
+        ensures { result ≡ newest_of self.now name.now }
+    {
+        match self.rows.get(name) {
+            Some(row) => Some(row.newest()),
+            None => None,
+        }
+    }
+
+    /// The marks of the name in the order of their stamps, in time logarithmic in the names.
+    pub fn marks(&self, name: &Name) -> &[Mark]
+        ensures value { result.now ≡ marks_of self.now name.now }
+        ensures rise { Rises result.now }
+    {
+        match self.rows.get(name) {
+            Some(row) => row.marks(),
+            None => &[],
+        }
+    }
+
+    /// The least name that has a newest known stamp and comes after `above`, in time logarithmic in the names; None
+    /// exactly where there is none.
+    pub fn next_known(&self, above: &Option<Name>) -> Option<Name>
+        ensures { result ≡ find (is_after above.now) (names_of self.now) }
+    {
+        match above {
+            Some(name) => next_after(&self.rows, name),
+            None => first(&self.rows),
+        }
+    }
+
+    /// The conflicts of the name, by the earlier stamp and then the later one, in time quadratic in its marks.
+    pub fn pairs(&self, name: &Name) -> Result<Seq<(Stamp, Stamp)>, NoMemory>
+        ensures { IfOk result (λ pairs. pairs ≡ pairs_of (marks_of self.now name.now)) }
+    {
+        conflicts::pairs(self.alloc, self.marks(name))
+    }
+}
+
+fn first(rows: &BTreeMap<Name, Row>) -> Option<Name>
+    ensures { result ≡ find (is_after None) (keys rows.now) }
+{
+    match rows.first_key_value() {
+        Some((name, _)) => Some(*name),
+        None => None,
+    }
+}
+
+fn next_after(rows: &BTreeMap<Name, Row>, name: &Name) -> Option<Name>
+    ensures { result ≡ find (is_after (Some name.now)) (keys rows.now) }
+{
+    match rows
+        .range((Bound::Excluded(*name), Bound::Unbounded))
+        .next()
+    {
+        Some((next, _)) => Some(*next),
+        None => None,
+    }
+}
+
+// What is kept of a name once a stamp is known.
+fn raised(alloc: Global, row: Option<Row>, newest: &Newest) -> Row
+    ensures newest { result.newest ≡ raised_to (option_map (λ (k : Kept). k.newest) row) newest.now }
+    ensures marks { result.marks ≡ marks_in row }
+{
+    match row {
+        Some(mut row) => {
+            row.raise(newest);
+            row
+        }
+        None => Row::new(alloc, newest),
+    }
+}
+
+// The row with the mark, where the floor does not cover it.
+fn marked(mut row: Row, floor: &Vector, mark: &Mark) -> Result<Row, NoMemory>
+    ensures newest { IfOk result (λ r. r.newest ≡ row.newest) }
+    ensures marks { IfOk result (λ r. r.marks ≡ cond (is_covered floor.now mark.now.stamp) row.marks (with_mark row.marks mark.now)) }
+{
+    if !is_covered(floor, &mark.stamp) {
+        row.add(mark)?;
+    }
+    Ok(row)
+}
+
+fn newest_of(mark: &Mark, gone: bool) -> Newest
+    ensures { result ≡ record { stamp = mark.now.stamp; gone = gone } }
+{
+    Newest {
+        stamp: mark.stamp,
+        gone,
+    }
+}

@@ -1,0 +1,75 @@
+use crate::{Marks, Newest};
+use pr_names::Name;
+use pr_stamps::{Mark, Stamp};
+use pr_vectors::Vector;
+use std::test::Fail;
+
+fn mark(stamp: (u64, u32), prev: Option<(u64, u32)>) -> Option<Mark> {
+    let prev = match prev {
+        Some((clock, node)) => Some(Stamp::new(clock, node)?),
+        None => None,
+    };
+    let stamp = Stamp::new(stamp.0, stamp.1)?;
+    Some(Mark { stamp, prev })
+}
+
+fn are_marks(marks: &[Mark], stamps: &[(u64, u32)]) -> bool {
+    let mut all = marks.iter().zip(stamps.iter());
+    marks.len() == stamps.len() && all.all(|(m, s)| m.stamp.clock() == s.0 && m.stamp.node() == s.1)
+}
+
+#[test]
+fn marks_and_their_conflicts(rt: HostRuntime) -> Result<(), Fail> {
+    let a = Name::read(b"a").ok().ok_or("a name")?;
+    let mut table = Marks::new(rt.alloc());
+    let first = mark((1, 0), None).ok_or("a mark")?;
+    let tied = mark((1, 1), None).ok_or("a mark")?;
+    let last = mark((2, 1), Some((1, 0))).ok_or("a mark")?;
+    table.add(&a, &last, false).ok().ok_or("no memory")?;
+    table.add(&a, &first, false).ok().ok_or("no memory")?;
+    table.add(&a, &tied, false).ok().ok_or("no memory")?;
+    table.add(&a, &first, true).ok().ok_or("no memory")?;
+    assert!(rt; are_marks(table.marks(&a), &[(1, 0), (1, 1), (2, 1)]));
+    let pairs = table.pairs(&a).ok().ok_or("no memory")?;
+    let pairs = pairs.as_slice();
+    assert_eq!(rt; pairs.len(), 2);
+    assert!(rt; pairs[0] == (first.stamp, tied.stamp) && pairs[1] == (tied.stamp, last.stamp));
+    let mut floor = Vector::zero();
+    floor.raise(&tied.stamp);
+    table.forget(&floor);
+    assert!(rt; are_marks(table.marks(&a), &[(1, 0), (2, 1)]) && table.floor() == floor);
+    table.add(&a, &tied, false).ok().ok_or("no memory")?;
+    assert!(rt; are_marks(table.marks(&a), &[(1, 0), (2, 1)]));
+    Ok(())
+}
+
+fn newest(stamp: (u64, u32), gone: bool) -> Option<Newest> {
+    let stamp = Stamp::new(stamp.0, stamp.1)?;
+    Some(Newest { stamp, gone })
+}
+
+#[test]
+fn newest_stamps(rt: HostRuntime) -> Result<(), Fail> {
+    let a = Name::read(b"a").ok().ok_or("a name")?;
+    let b = Name::read(b"b").ok().ok_or("a name")?;
+    let mut table = Marks::new(rt.alloc());
+    let write = mark((2, 1), None).ok_or("a mark")?;
+    let gone = newest((2, 1), true).ok_or("a stamp")?;
+    table.add(&a, &write, false).ok().ok_or("no memory")?;
+    table.raise(&a, &gone).ok().ok_or("no memory")?;
+    table.raise(&b, &gone).ok().ok_or("no memory")?;
+    assert_eq!(rt;
+        (table.newest(&a), table.newest(&b)),
+        (newest((2, 1), false), newest((2, 1), true))
+    );
+    assert_eq!(rt; table.marks(&b).len(), 0);
+    assert_eq!(rt;
+        (
+            table.next_known(&None),
+            table.next_known(&Some(a)),
+            table.next_known(&Some(b))
+        ),
+        (Some(a), Some(b), None)
+    );
+    Ok(())
+}
