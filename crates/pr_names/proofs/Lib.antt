@@ -1,0 +1,10 @@
+pub mod Padding
+pub mod Bytes
+pub mod Place
+pub mod Places
+pub mod Above
+pub mod Raised
+pub mod Reading
+pub mod Spans
+pub mod Overlaps
+pub mod Texts

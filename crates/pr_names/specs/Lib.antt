@@ -1,0 +1,9 @@
+pub mod Byte
+pub mod Name
+pub mod Order
+pub mod Padded
+pub mod Bound
+pub mod Span
+pub mod Above
+pub mod Read
+pub mod Text

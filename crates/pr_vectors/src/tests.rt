@@ -1,0 +1,32 @@
+use crate::{Vector, vectors_cover_points};
+use pr_stamps::{MAX, Stamp};
+use std::test::Fail;
+
+fn vector(clocks: &[(u64, u32)]) -> Option<Vector> {
+    let mut vector = Vector::zero();
+    for (clock, node) in clocks {
+        let stamp = Stamp::new(*clock, *node)?;
+        vector.raise(&stamp);
+    }
+    Some(vector)
+}
+
+#[test]
+fn cuts_and_joins(rt: HostRuntime) -> Result<(), Fail> {
+    let both = vector(&[(3, 0), (3, 1)]).ok_or("stamps")?;
+    let stamp = Stamp::new(2, 0).ok_or("a stamp")?;
+    assert_eq!(rt; Some(both.stamp_cut(&stamp)), vector(&[(2, 0), (1, 1)]));
+    assert_eq!(rt; Some(both.below(&stamp)), vector(&[(1, 0), (1, 1)]));
+    let left = vector(&[(5, 0), (1, 31)]).ok_or("stamps")?;
+    assert_eq!(rt; Some(both.join(&left)), vector(&[(5, 0), (3, 1), (1, 31)]));
+    assert_eq!(rt; Some(both.meet(&left)), vector(&[(3, 0)]));
+    assert!(rt; both.le(&both.join(&left)) && !both.le(&left) && Vector::zero().le(&left));
+    assert!(rt; both.covers(&stamp) && !Vector::zero().covers(&stamp));
+    let last = vector(&[(MAX, 7)]).ok_or("stamps")?;
+    assert_eq!(rt;
+        (both.greatest(), last.greatest(), last.at(7), last.at(6)),
+        (3, MAX, MAX, 0)
+    );
+    vectors_cover_points();
+    Ok(())
+}
