@@ -1,0 +1,7 @@
+mod Basics
+mod Keeps
+mod Takes
+mod Puts
+mod Seats
+mod Ends
+mod Pair
