@@ -13,6 +13,8 @@ mod session;
 mod step;
 mod taken;
 mod target;
+#[cfg(test)]
+mod tests;
 mod write_rec;
 
 pub use imprecise::Imprecise;

@@ -1,5 +1,6 @@
 pub mod Between
 pub mod Apart
+pub mod Behind
 pub mod Same
 pub mod Lists
 pub mod SpanEnds
