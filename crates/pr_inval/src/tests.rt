@@ -111,6 +111,11 @@ fn message(kind: Kind) -> Msg {
     }
 }
 
+fn copied(alloc: Global, kind: Kind) -> Result<Kind, Fail> {
+    let Msg { kind, .. } = message(kind).copy(alloc).ok().ok_or("no memory")?;
+    Ok(kind)
+}
+
 #[test]
 fn messages_are_copied(rt: HostRuntime) -> Result<(), Fail> {
     let write = WriteRec {
@@ -119,111 +124,80 @@ fn messages_are_copied(rt: HostRuntime) -> Result<(), Fail> {
         prev: None,
         gone: false,
     };
-    let precise = message(Kind::Precise {
-        from: Vector::zero(),
-        to: vector(1)?,
-        write,
-    });
-    let copy = precise.copy(rt.alloc()).ok().ok_or("no memory")?;
-    let Msg {
-        time,
-        stream,
-        number,
-        kind,
-    } = copy;
-    assert_eq!(rt; (time, stream, number), (2, 0, 1));
-    let Kind::Precise {
-        from,
-        to,
-        write: copied,
-    } = kind
-    else {
-        return Err(Fail::from("another kind"));
-    };
-    assert_eq!(rt; (from, to, copied), (Vector::zero(), vector(1)?, write));
+    let (from, to) = (Vector::zero(), vector(1)?);
+    let msg = message(Kind::Precise { from, to, write });
+    let copy = msg.copy(rt.alloc()).ok().ok_or("no memory")?;
+    assert_eq!(rt; (copy.time, copy.stream, copy.number), (2, 0, 1));
+    assert!(rt;
+        matches!(copy.kind, Kind::Precise { from: f, to: t, write: w } if f == from && t == to && w == write)
+    );
     Ok(())
 }
 
 #[test]
-fn lists_in_messages_are_copied(rt: HostRuntime) -> Result<(), Fail> {
-    let mark = Mark {
+fn targets_are_copied(rt: HostRuntime) -> Result<(), Fail> {
+    let kind = Kind::Imprecise {
+        from: Vector::zero(),
+        to: vector(1)?,
+        target: set(rt.alloc(), b"a,b")?,
+    };
+    let Kind::Imprecise { target, .. } = copied(rt.alloc(), kind)? else {
+        return Err(Fail::from("another kind"));
+    };
+    assert_eq!(rt; text(rt.alloc(), &target)?.as_slice(), b"a,b".as_slice());
+    Ok(())
+}
+
+#[test]
+fn bodies_are_copied(rt: HostRuntime) -> Result<(), Fail> {
+    let kind = Kind::Body {
+        name: name(b"a/x")?,
+        stamp: stamp(1, 0)?,
+        bytes: Seq::copied(rt.alloc(), b"hi").ok().ok_or("no memory")?,
+    };
+    let Kind::Body { bytes, .. } = copied(rt.alloc(), kind)? else {
+        return Err(Fail::from("another kind"));
+    };
+    assert_eq!(rt; bytes.as_slice(), b"hi".as_slice());
+    Ok(())
+}
+
+fn mark() -> Result<Mark, Fail> {
+    Ok(Mark {
         stamp: stamp(2, 1)?,
         prev: Some(stamp(1, 0)?),
-    };
-    let mut rows = Seq::new(rt.alloc());
+    })
+}
+
+fn rows(alloc: Global) -> Result<Seq<Row>, Fail> {
+    let mut rows = Seq::new(alloc);
     let row = Row {
         name: name(b"a/x")?,
         newest: stamp(2, 1)?,
         gone: true,
-        marks: Seq::copied(rt.alloc(), &[mark]).ok().ok_or("no memory")?,
+        marks: Seq::copied(alloc, &[mark()?]).ok().ok_or("no memory")?,
     };
     rows.push(row).ok().ok_or("no memory")?;
-    let checkpoint = message(Kind::Checkpoint {
-        to: vector(2)?,
-        target: set(rt.alloc(), b"b*")?,
-        floor: Vector::zero(),
-        rows,
-    });
-    let Msg { kind, .. } = checkpoint.copy(rt.alloc()).ok().ok_or("no memory")?;
-    let Kind::Checkpoint {
-        to,
-        target,
-        floor,
-        rows,
-    } = kind
-    else {
-        return Err(Fail::from("another kind"));
-    };
-    assert_eq!(rt; (to, floor, rows.len()), (vector(2)?, Vector::zero(), 1));
-    assert_eq!(rt; text(rt.alloc(), &target)?.as_slice(), b"b*".as_slice());
-    for row in rows.as_slice() {
-        assert_eq!(rt;
-            (row.name, row.newest, row.gone),
-            (name(b"a/x")?, stamp(2, 1)?, true)
-        );
-        assert_eq!(rt; row.marks.as_slice(), [mark].as_slice());
-    }
-    Ok(())
+    Ok(rows)
 }
 
 #[test]
-fn bodies_and_targets_are_copied(rt: HostRuntime) -> Result<(), Fail> {
-    let imprecise = message(Kind::Imprecise {
-        from: Vector::zero(),
-        to: vector(1)?,
-        target: set(rt.alloc(), b"a,b")?,
-    });
-    let Msg { kind, .. } = imprecise.copy(rt.alloc()).ok().ok_or("no memory")?;
-    let Kind::Imprecise {
-        from: _,
-        to,
-        target,
-    } = kind
-    else {
+fn rows_are_copied(rt: HostRuntime) -> Result<(), Fail> {
+    let kind = Kind::Checkpoint {
+        to: vector(2)?,
+        target: set(rt.alloc(), b"b*")?,
+        floor: Vector::zero(),
+        rows: rows(rt.alloc())?,
+    };
+    let Kind::Checkpoint { rows, .. } = copied(rt.alloc(), kind)? else {
         return Err(Fail::from("another kind"));
     };
-    assert_eq!(rt;
-        (to, text(rt.alloc(), &target)?.as_slice()),
-        (vector(1)?, b"a,b".as_slice())
-    );
-    let body = message(Kind::Body {
-        name: name(b"a/x")?,
-        stamp: stamp(1, 0)?,
-        bytes: Seq::copied(rt.alloc(), b"hi").ok().ok_or("no memory")?,
-    });
-    let Msg { kind, .. } = body.copy(rt.alloc()).ok().ok_or("no memory")?;
-    let Kind::Body {
-        name: of,
-        stamp: at,
-        bytes,
-    } = kind
-    else {
-        return Err(Fail::from("another kind"));
-    };
-    assert_eq!(rt;
-        (of, at, bytes.as_slice()),
-        (name(b"a/x")?, stamp(1, 0)?, b"hi".as_slice())
-    );
+    let mark = mark()?;
+    assert_eq!(rt; rows.len(), 1);
+    for row in rows.as_slice() {
+        assert!(rt; row.gone && row.newest == mark.stamp);
+        assert_eq!(rt; row.marks.as_slice(), [mark].as_slice());
+    }
     Ok(())
 }
 
