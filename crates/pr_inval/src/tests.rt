@@ -128,9 +128,15 @@ fn messages_are_copied(rt: HostRuntime) -> Result<(), Fail> {
     let msg = message(Kind::Precise { from, to, write });
     let copy = msg.copy(rt.alloc()).ok().ok_or("no memory")?;
     assert_eq!(rt; (copy.time, copy.stream, copy.number), (2, 0, 1));
-    assert!(rt;
-        matches!(copy.kind, Kind::Precise { from: f, to: t, write: w } if f == from && t == to && w == write)
-    );
+    let Kind::Precise {
+        from: start,
+        to: end,
+        write: told,
+    } = &copy.kind
+    else {
+        return Err(Fail::from("another kind"));
+    };
+    assert!(rt; *start == from && *end == to && *told == write);
     Ok(())
 }
 

@@ -1,9 +1,9 @@
 -- An interval behind the last one of a set.
-use Rattle.std.proofs.Common.{◌≡◌, ℕ, zero, suc, ◌-◌, ◌+◌, ◌<◌, ◌≤◌, Bool, true, false, List, [], ◌∷◌, ◌++◌, length, get_or, IsTrue, Result, Ok, Err, OnOk, OnErr, refl, sym, ap, subst, ◌∙◌, arith}
+use Rattle.std.proofs.Common.{◌≡◌, ℕ, suc, ◌-◌, ◌<◌, true, List, [], ◌∷◌, ◌++◌, length, get_or, IsTrue, Result, Ok, Err, OnOk, OnErr, refl, sym, ap, subst, ◌∙◌, arith}
 use Rattle.pr_names.specs.Bound.{bound_lt}
 use Rattle.pr_names.specs.Span.{Span, IsSpan}
 use Rattle.pr_names.specs.declared.bound.Bound.TheVariants.{At}
-use Rattle.pr_sets.specs.Spans.{IsSet, IsBehind, is_behind}
+use Rattle.pr_sets.specs.Spans.{IsSet, is_behind}
 
 pub behind_none : (ts : List Span) (s : Span) → length ts ≡ 0 → true ≡ is_behind ts s
 unfolding is_behind

@@ -2,6 +2,7 @@ pub mod Between
 pub mod Apart
 pub mod Behind
 pub mod Same
+pub mod Lookups
 pub mod Lists
 pub mod SpanEnds
 pub mod Adding

@@ -7,7 +7,7 @@ ghost use Rattle.std.specs.Prelude.{◌≡◌, ℕ, List, [], ◌∷◌, ◌++�
 use crate::complement::complement;
 use crate::intersection::intersection;
 use crate::union::union;
-use crate::{SetFault, containment, meeting, print, read};
+use crate::{SetFault, containment, lookup, meeting, print, read};
 use pr_names::{Bound, Interval, Name};
 use pr_stamps::{NoMemory, Seq};
 use std::alloc::Global;
@@ -98,16 +98,11 @@ impl NameSet {
         self.parts.as_slice()
     }
 
-    /// Whether it has the name, in time linear in its intervals.
+    /// Whether it has the name, in time logarithmic in its intervals.
     pub fn has(&self, name: &Name) -> bool
         ensures { result ≡ has self.now name.now }
     {
-        for part in self.parts.as_slice() {
-            if part.has(name) {
-                return true;
-            }
-        }
-        false
+        lookup::has(self.parts(), name)
     }
 
     /// Whether some name is in both sets, in time linear in the intervals of both.

@@ -1,4 +1,4 @@
-use Rattle.std.proofs.Common.{rules, ap, ◌∙◌, sym, ◌≡◌, ◌<◌, ◌-◌, length, arith, []}
+use Rattle.std.proofs.Common.{rules, ap, ◌∙◌, ◌≡◌, ◌<◌, length}
 use Rattle.pr_names.specs.Bound.{bound_lt}
 use Rattle.pr_names.specs.declared.bound.Bound.TheVariants.{At}
 use Rattle.pr_sets.specs.Spans.{is_behind}
