@@ -1,11 +1,10 @@
 -- Intervals that share a name.
-use Rattle.std.proofs.Common.{◌≡◌, ℕ, ◌<◌, ◌≤◌, List, Bool, true, false, sym, ◌∙◌, arith, inl, inr}
+use Rattle.std.proofs.Common.{◌≡◌, ◌<◌, Bool, true, false, sym, ◌∙◌, arith, inl, inr}
 use Rattle.std.specs.Prelude.{◌↔◌, IsTrue}
 use Rattle.std.proofs.lemmas.Bool.{false≢true}
-use Rattle.pr_names.specs.Name.{IsName}
 use Rattle.pr_names.specs.Bound.{is_under}
-use Rattle.pr_names.specs.Span.{Span, IsSpan, Overlap, holds}
-use Rattle.pr_names.proofs.Place.{place, from_place, to_place}
+use Rattle.pr_names.specs.Span.{Span, IsSpan, Overlap}
+use Rattle.pr_names.proofs.Place.{from_place, to_place}
 use Rattle.pr_names.proofs.Places.{holds_places, lt_tells, places_hold, places_under, span_some, under_places}
 
 -- the later start of two intervals lies in both, where each begins before the other ends

@@ -1,6 +1,6 @@
 -- A set with the names of one interval more, and the one list of intervals in any order.
-use Rattle.std.proofs.Common.{◌≡◌, ℕ, ◌+◌, ◌≤◌, Bool, true, false, refl, sym, ap, ◌∙◌, arith, inl, inr, List, [], ◌∷◌}
-use Rattle.std.specs.Prelude.{◌||◌, All}
+use Rattle.std.proofs.Common.{◌≡◌, ℕ, ◌+◌, ◌≤◌, Bool, true, false, refl, ap, ◌∙◌, arith, inl, inr, List, [], ◌∷◌}
+use Rattle.std.specs.Prelude.{◌||◌}
 use Rattle.pr_names.specs.Name.{IsName}
 use Rattle.pr_names.specs.Span.{Span, IsSpan, holds}
 use Rattle.pr_names.specs.declared.bound.Bound.TheVariants.{At}

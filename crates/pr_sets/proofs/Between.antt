@@ -1,6 +1,6 @@
 -- What tests of places tell.
-use Rattle.std.proofs.Common.{◌≡◌, ℕ, suc, ◌<◌, ◌≤◌, Bool, true, false, refl, arith, inl, inr}
-use Rattle.std.specs.Prelude.{◌||◌, ◌&&◌, not, nat_le, nat_lt, min, max, ◌⊎◌}
+use Rattle.std.proofs.Common.{◌≡◌, ℕ, ◌<◌, ◌≤◌, Bool, true, false, arith}
+use Rattle.std.specs.Prelude.{◌||◌, ◌&&◌, not, nat_le, min, max}
 use Rattle.std.proofs.lemmas.Bool.Decides.{nat_tests}
 use Rattle.pr_names.proofs.Places.{between}
 

@@ -1,6 +1,8 @@
 pub mod Between
 pub mod Apart
+pub mod Behind
 pub mod Same
+pub mod Lookups
 pub mod Lists
 pub mod SpanEnds
 pub mod Adding

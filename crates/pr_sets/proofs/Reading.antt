@@ -12,7 +12,6 @@ use Rattle.std.proofs.lemmas.List.Elements.{All-head, All-tail}
 use Rattle.std.proofs.lemmas.List.Sorted.{All-permutation, list_any-IsPermutation}
 use Rattle.std.proofs.lemmas.List.Splits.{slice_split_first, length-slice_split}
 use Rattle.std.specs.Str.{bytes_eq}
-use Rattle.pr_names.specs.Name.{IsName}
 use Rattle.pr_names.specs.Order.{name_lt}
 use Rattle.pr_names.specs.Span.{Span, IsSpan, holds}
 use Rattle.pr_names.specs.Text.{interval_read}

@@ -1,8 +1,7 @@
 -- Intervals that are joined, shared and made.
-use Rattle.std.proofs.Common.{◌≡◌, ℕ, ◌<◌, ◌≤◌, ◌⊎◌, true, false, refl, sym, ap, ◌∙◌, subst, arith, inl, inr, List, [], ◌∷◌}
+use Rattle.std.proofs.Common.{◌≡◌, ℕ, ◌≤◌, ◌⊎◌, false, refl, sym, ap, ◌∙◌, subst, arith, inl, inr, List, [], ◌∷◌}
 use Rattle.std.specs.Prelude.{◌||◌, ◌&&◌, min, max, Option, Some, None, IfSome, IsTrue, is_some}
 use Rattle.std.specs.Option.{option_to_list}
-use Rattle.std.proofs.lemmas.Bool.{false≢true}
 use Rattle.pr_names.specs.Name.{IsName}
 use Rattle.pr_names.specs.Bound.{IsBound, is_under}
 use Rattle.pr_names.specs.Span.{Span, IsSpan, holds}
@@ -11,7 +10,7 @@ use Rattle.pr_names.proofs.Place.{place, bound_place, from_place, to_place}
 use Rattle.pr_names.proofs.Places.{between, between_tells, bound_lt_tells, holds_is, lt_tells, span_of, span_some, under_tells}
 use Rattle.pr_sets.specs.Ends.{greater_bound, greater_name, joined, lesser_bound, lesser_name, shared_list, span_list}
 use Rattle.pr_sets.specs.Spans.{has}
-use Rattle.pr_sets.proofs.Between.{joins, shares, shares_none}
+use Rattle.pr_sets.proofs.Between.{joins, shares}
 use Rattle.pr_sets.proofs.Lists.{or_none}
 
 pub lesser_name_place : (a b : List ℕ) → IsName a → IsName b → place (lesser_name a b) ≡ min (place a) (place b)

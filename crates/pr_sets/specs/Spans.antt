@@ -1,5 +1,5 @@
 -- Lists of intervals as sets of names.
-use Rattle.std.specs.Prelude.{◌≡◌, ℕ, Bool, IsTrue, false, List, [], ◌∷◌, ◌||◌, ◌&&◌, not}
+use Rattle.std.specs.Prelude.{◌≡◌, ℕ, Bool, IsTrue, true, false, List, [], ◌∷◌, ◌||◌, ◌&&◌, not}
 use Rattle.pr_names.specs.Name.{IsName}
 use Rattle.pr_names.specs.Bound.{bound_lt}
 use Rattle.pr_names.specs.Span.{Span, IsSpan, holds}
@@ -20,6 +20,12 @@ IsBehind end (s ∷ ss) = IsTrue (bound_lt end (At s.lo))
 abbrev pub IsSet : List Span → Type 0
 IsSet [] = Unit {0}
 IsSet (s ∷ ss) = IsSpan s × IsBehind s.hi ss × IsSet ss
+
+-- the interval can stand behind the last of these, with a name between
+unfoldable pub is_behind : List Span → Span → Bool
+is_behind [] s = true
+is_behind (t ∷ []) s = bound_lt t.hi (At s.lo)
+is_behind (t ∷ (u ∷ ts)) s = is_behind (u ∷ ts) s
 
 -- some name passes both tests
 abbrev pub Meet : (List ℕ → Bool) → (List ℕ → Bool) → Type 0

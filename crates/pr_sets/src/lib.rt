@@ -8,6 +8,7 @@ mod fault;
 mod intersection;
 mod joiner;
 mod law;
+mod lookup;
 mod meeting;
 mod name_set;
 mod print;

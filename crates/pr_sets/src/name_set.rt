@@ -1,14 +1,14 @@
 // A set of names.
 ghost use Rattle.pr_names.specs.Name.{IsName};
-ghost use Rattle.pr_sets.specs.Spans.{IsComplement, IsIntersection, IsSet, IsUnion, Meet, Within, has};
+ghost use Rattle.pr_sets.specs.Spans.{IsComplement, IsIntersection, IsSet, IsUnion, Meet, Within, has, is_behind};
 ghost use Rattle.pr_sets.specs.Text.{AddsFront, set_read, set_text};
 ghost use Rattle.std.specs.Prelude.{◌≡◌, ℕ, List, [], ◌∷◌, ◌++◌, ◌⊎◌, length, IfErr, IfOk, OnOk, OnErr, ◌↔◌, IsTrue, MatchBool, Ok, Err, false};
 
 use crate::complement::complement;
 use crate::intersection::intersection;
 use crate::union::union;
-use crate::{SetFault, containment, meeting, print, read};
-use pr_names::{Interval, Name};
+use crate::{SetFault, containment, lookup, meeting, print, read};
+use pr_names::{Bound, Interval, Name};
 use pr_stamps::{NoMemory, Seq};
 use std::alloc::Global;
 use std::marker::Model;
@@ -53,6 +53,28 @@ impl NameSet {
         Ok(NameSet { parts })
     }
 
+    /// Whether the interval lies behind the last one of the set, with a name between, in constant time.
+    pub fn can_push(&self, part: &Interval) -> bool
+        ensures { result ≡ is_behind self.now part.now }
+    {
+        let parts = self.parts.as_slice();
+        if parts.is_empty() {
+            return true;
+        }
+        let last = parts[parts.len() - 1];
+        last.hi().is_below(&Bound::At(part.lo()))
+    }
+
+    /// Adds an interval behind the last one, in constant time where the list need not grow. A refusal leaves the set.
+    pub fn push(&mut self, part: Interval) -> Result<(), NoMemory>
+        requires { IsTrue (is_behind self.old part) }
+        ensures ok { OnOk result (self.new ≡ self.old ++ part ∷ []) }
+        ensures err { OnErr result (self.new ≡ self.old) }
+    {
+        let _ = part.lo();
+        self.parts.push(part)
+    }
+
     /// Whether it has no name, in constant time.
     pub fn is_empty(&self) -> bool
         ensures list { IsTrue result ↔ (self.now ≡ []) }
@@ -76,16 +98,11 @@ impl NameSet {
         self.parts.as_slice()
     }
 
-    /// Whether it has the name, in time linear in its intervals.
+    /// Whether it has the name, in time logarithmic in its intervals.
     pub fn has(&self, name: &Name) -> bool
         ensures { result ≡ has self.now name.now }
     {
-        for part in self.parts.as_slice() {
-            if part.has(name) {
-                return true;
-            }
-        }
-        false
+        lookup::has(self.parts(), name)
     }
 
     /// Whether some name is in both sets, in time linear in the intervals of both.

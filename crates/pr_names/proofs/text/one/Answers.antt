@@ -1,4 +1,4 @@
-use Rattle.std.proofs.Common.{ap, sym, ◌∙◌}
+use Rattle.std.proofs.Common.{ap, ◌∙◌}
 use Rattle.pr_names.specs.Bound.{is_under}
 use Rattle.pr_names.proofs.Above.{one_some}
 use Rattle.pr_names.proofs.text.one.Goals as goal

@@ -1,4 +1,4 @@
-use Rattle.std.proofs.Common.{refl, arith, subst, sym, List, [], ◌∷◌}
+use Rattle.std.proofs.Common.{refl, arith, subst, sym, List}
 use Rattle.pr_names.specs.Span.{Span}
 use Rattle.pr_sets.specs.Spans.{IsComplement}
 use Rattle.pr_sets.proofs.Complements.{gaps_are}

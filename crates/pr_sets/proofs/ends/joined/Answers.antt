@@ -1,8 +1,5 @@
-use Rattle.std.proofs.Common.{◌≡◌, ap, sym, subst, ◌∙◌}
-use Rattle.std.specs.Prelude.{IsTrue, IfSome, Option, Some}
-use Rattle.pr_names.specs.Bound.{is_under}
-use Rattle.pr_names.specs.Span.{Span}
-use Rattle.pr_sets.specs.Ends.{joined, lesser_name, greater_bound}
+use Rattle.std.proofs.Common.{◌∙◌}
+use Rattle.pr_sets.specs.Ends.{joined}
 use Rattle.pr_sets.proofs.SpanEnds.{joined_some, unwrapped}
 use Rattle.pr_sets.proofs.ends.joined.Goals as goal
 

@@ -1,4 +1,3 @@
-use Rattle.std.proofs.Common.{sym}
 use Rattle.pr_sets.specs.Ends.{shared_list}
 use Rattle.pr_sets.proofs.SpanEnds.{made_list}
 use Rattle.pr_sets.proofs.ends.shared.Goals as goal

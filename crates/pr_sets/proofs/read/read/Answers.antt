@@ -1,7 +1,5 @@
-use Rattle.std.proofs.Common.{◌≡◌, List, ◌⊎◌, inr, Result, Ok, Err, arith, sym, ap, subst, ◌∙◌}
-use Rattle.pr_names.specs.Span.{Span}
+use Rattle.std.proofs.Common.{◌≡◌, ◌⊎◌, inr, Ok, Err, arith, sym, ap, ◌∙◌}
 use Rattle.pr_sets.specs.Text.{set_read}
-use Rattle.pr_sets.specs.declared.fault.SetFault.{SetFault}
 use Rattle.pr_sets.specs.declared.fault.SetFault.TheVariants.{NoMemory}
 use Rattle.pr_sets.proofs.Reading.{few_enough, handed_on, item_refused, none_read, too_many}
 use Rattle.pr_sets.proofs.read.read.Goals as goal

@@ -1,0 +1,19 @@
+use Rattle.std.proofs.Common.{rules, ap, ◌∙◌, ◌≡◌, ◌<◌, length}
+use Rattle.pr_names.specs.Bound.{bound_lt}
+use Rattle.pr_names.specs.declared.bound.Bound.TheVariants.{At}
+use Rattle.pr_sets.specs.Spans.{is_behind}
+use Rattle.pr_sets.proofs.Behind.{behind_none, behind_last}
+use Rattle.pr_sets.proofs.name_set.NameSet.can_push.Goals as goal
+
+pub returns-then-is_empty : goal.returns-then-is_empty
+returns-then-is_empty c = let e : length c.args.self.now ≡ 0 = search rules in behind_none c.args.self.now c.args.part.now e
+
+pub returns : goal.returns
+returns c =
+    let part = c.args.part.now in
+    let last = c.index-parts-parts.result in
+    let e : c.as_slice-parts.result.now ≡ c.args.self.now = search rules in
+    let some : 0 < length c.as_slice-parts.result.now = search rules in
+    c.is_below.ensures
+    ∙ ((λ i. bound_lt (c.hi.ensures.value i) (At (c.lo.ensures.value i)))
+    ∙ (ap (λ l. bound_lt l.hi (At part.lo)) c.index-parts-parts.is ∙ (behind_last c.as_slice-parts.result.now part last some ∙ ap (λ t. is_behind t part) e)))
