@@ -1,2 +1,4 @@
 pub mod Points
+pub mod Merging
+pub mod Targets
 pub mod Standing

@@ -1,10 +1,12 @@
 // What a message tells.
+ghost use Rattle.std.specs.Prelude.{◌≡◌, IfOk};
 
 use crate::{Bytes, Row, WriteRec};
 use pr_names::Name;
 use pr_sets::NameSet;
-use pr_stamps::{Seq, Stamp};
+use pr_stamps::{NoMemory, Seq, Stamp};
 use pr_vectors::Vector;
+use std::alloc::Global;
 
 /// The four kinds of message ("PRACTI Replication", NSDI 2006, sections 3.1 to 3.3). An invalidation covers the
 /// points that its vectors delimit, from the first and up to the second.
@@ -35,4 +37,60 @@ pub enum Kind {
         stamp: Stamp,
         bytes: Bytes,
     },
+}
+
+impl Kind {
+    /// A copy, in time linear in the target, the rows with their marks, and the bytes.
+    pub fn copy(&self, alloc: Global) -> Result<Kind, NoMemory>
+        ensures { IfOk result (λ kind. kind ≡ self.now) }
+    {
+        match self {
+            Kind::Precise { from, to, write } => Ok(Kind::Precise {
+                from: *from,
+                to: *to,
+                write: *write,
+            }),
+            Kind::Imprecise { from, to, target } => {
+                let target = target.copy(alloc)?;
+                Ok(Kind::Imprecise {
+                    from: *from,
+                    to: *to,
+                    target,
+                })
+            }
+            Kind::Checkpoint {
+                to,
+                target,
+                floor,
+                rows,
+            } => {
+                let target = target.copy(alloc)?;
+                let rows = copied_rows(alloc, rows.as_slice())?;
+                Ok(Kind::Checkpoint {
+                    to: *to,
+                    target,
+                    floor: *floor,
+                    rows,
+                })
+            }
+            Kind::Body { name, stamp, bytes } => {
+                let bytes = Seq::copied(alloc, bytes.as_slice())?;
+                Ok(Kind::Body {
+                    name: *name,
+                    stamp: *stamp,
+                    bytes,
+                })
+            }
+        }
+    }
+}
+
+fn copied_rows(alloc: Global, rows: &[Row]) -> Result<Seq<Row>, NoMemory>
+    ensures { IfOk result (λ copies. copies ≡ rows.now) }
+{
+    let mut copies = Seq::new(alloc);
+    for row in rows {
+        copies.push(row.copy(alloc)?)?;
+    }
+    Ok(copies)
 }

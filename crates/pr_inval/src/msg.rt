@@ -1,7 +1,9 @@
 // A message on a stream.
+ghost use Rattle.std.specs.Prelude.{◌≡◌, IfOk};
 
 use crate::Kind;
-use pr_stamps::Seq;
+use pr_stamps::{NoMemory, Seq};
+use std::alloc::Global;
 
 /// The bytes of a body.
 pub type Bytes = Seq<u8>;
@@ -13,4 +15,19 @@ pub struct Msg {
     pub stream: u32,
     pub number: u64,
     pub kind: Kind,
+}
+
+impl Msg {
+    /// A copy, in time linear in what the message holds.
+    pub fn copy(&self, alloc: Global) -> Result<Msg, NoMemory>
+        ensures { IfOk result (λ msg. msg ≡ self.now) }
+    {
+        let kind = self.kind.copy(alloc)?;
+        Ok(Msg {
+            time: self.time,
+            stream: self.stream,
+            number: self.number,
+            kind,
+        })
+    }
 }

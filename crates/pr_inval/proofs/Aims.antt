@@ -1,0 +1,71 @@
+-- The target is one or the other set of names.
+use Rattle.std.proofs.Common.{◌≡◌, ℕ, ◌<◌, ◌≤◌, ◌⊎◌, List, Bool, true, false, refl, sym, ap, ◌∙◌, subst, arith, inl, inr, length}
+use Rattle.std.specs.Prelude.{◌||◌, ◌&&◌, not, IsTrue, IfOk, Result, Ok, Err}
+use Rattle.std.proofs.lemmas.Bool.{false≢true}
+use Rattle.pr_names.specs.Name.{IsName}
+use Rattle.pr_names.specs.Span.{Span}
+use Rattle.pr_sets.specs.Spans.{IsComplement, IsIntersection, IsSet, IsSetOf, IsUnion, has}
+use Rattle.pr_sets.proofs.Same.{same_list}
+use Rattle.pr_inval.specs.Targets.{IsTargetFor}
+
+either : (p q : Bool) → (p || q) ≡ true → (p ≡ true) ⊎ (q ≡ true)
+either true q h = inl refl
+either false q h = inr h
+
+or_first : (p q : Bool) → p ≡ true → (p || q) ≡ true
+or_first p q h = rw h refl
+
+or_second : (p q : Bool) → q ≡ true → (p || q) ≡ true
+or_second true q h = refl
+or_second false q h = h
+
+-- the union has the names of both
+fine_is : (omitted dark fine : List Span) → IsUnion omitted dark fine → IsSetOf fine (λ o. IsTrue (has dark o) ⊎ IsTrue (has omitted o))
+fine_is omitted dark fine u = record {
+  one_list = u.set;
+  has_them = λ o name t. u.names o name ∙ elim t [ inl d ↦ or_second (has omitted o) (has dark o) d | inr m ↦ or_first (has omitted o) (has dark o) m ];
+  no_others = λ o name h. elim (either (has omitted o) (has dark o) (sym (u.names o name) ∙ h)) [ inl m ↦ inr m | inr d ↦ inl d ];
+}
+
+same_test : (p q : Bool) → (p ≡ true → q ≡ true) → (q ≡ true → p ≡ true) → p ≡ q
+same_test true q h g = sym (h refl)
+same_test false true h g = g refl
+same_test false false h g = refl
+
+-- the set of just these names is one list
+one_fine : (a b : List Span) (test : List ℕ → Type 0) → IsSetOf a test → IsSetOf b test → a ≡ b
+one_fine a b test ha hb =
+    same_list a b ha.one_list hb.one_list (λ o name. same_test (has a o) (has b o)
+    (λ t. hb.has_them o name (ha.no_others o name t)) (λ t. ha.has_them o name (hb.no_others o name t)))
+
+outside_or : (s d : Bool) → (not s || (d && s)) ≡ true → (s ≡ false) ⊎ (d ≡ true)
+outside_or true true h = inr refl
+outside_or true false h = absurd (cc)
+outside_or false d h = inl refl
+
+or_outside : (s d : Bool) → (s ≡ false) ⊎ (d ≡ true) → (not s || (d && s)) ≡ true
+or_outside true d (inl h) = absurd (cc)
+or_outside true d (inr h) = rw h refl
+or_outside false d h = refl
+
+coarse_is : (dark sub outside inside all : List Span) → IsComplement sub outside → IsIntersection dark sub inside → IsUnion outside inside all → IsSetOf all (λ o. (has sub o ≡ false) ⊎ IsTrue (has dark o))
+coarse_is dark sub outside inside all c i u =
+    let names : (o : List ℕ) → IsName o → has all o ≡ (not (has sub o) || (has dark o && has sub o)) = λ o name.
+    u.names o name ∙ ap (λ t. t || has inside o) (c.names o name) ∙ ap (λ t. not (has sub o) || t) (i.names o name)
+    in
+    record {
+      one_list = u.set;
+      has_them = λ o name t. names o name ∙ or_outside (has sub o) (has dark o) t;
+      no_others = λ o name h. outside_or (has sub o) (has dark o) (sym (names o name) ∙ h);
+    }
+
+pub fine_target : (omitted dark sub fine : List Span) → IsUnion omitted dark fine → length fine ≤ 16 → IsTargetFor omitted dark sub fine
+fine_target omitted dark sub fine u le = inl (fine_is omitted dark fine u, le)
+
+pub coarse_target : {E : Type 0} (omitted dark sub fine outside inside : List Span) (r : Result (List Span) E) → IsUnion omitted dark fine → 16 < length fine → IsComplement sub outside → IsIntersection dark sub inside → IfOk r (IsUnion outside inside) → IfOk r (IsTargetFor omitted dark sub)
+coarse_target omitted dark sub fine outside inside (Ok all) u lt c i h = inr (
+  λ other o. let P : List Span → Type 0 = λ ss. 16 < length ss in
+      subst P (one_fine fine other (λ n. IsTrue (has dark n) ⊎ IsTrue (has omitted n)) (fine_is omitted dark fine u) o) lt,
+  coarse_is dark sub outside inside all c i h,
+)
+coarse_target omitted dark sub fine outside inside (Err e) u lt c i h = tt
