@@ -1,0 +1,165 @@
+-- Ranges that lie apart, with one taken out or put in. A set of ranges is the end of each by its start.
+use Rattle.std.proofs.Common.{◌≡◌, ℕ, ◌≤◌, ◌<◌, ◌+◌, Option, None, Some, true, false, cond, refl, sym, ◌∙◌, ap, arith, nat_eq, inl, inr}
+use Rattle.std.specs.Prelude.{◌⊎◌, min, max}
+use Rattle.std.specs.Option.{IsSome, IfNone}
+use Rattle.std.specs.Ordering.{is_eq, is_lt, is_gt, nat_cmp}
+use Rattle.std.proofs.lemmas.Bool.Decides.{nat_tests}
+use Rattle.pr_gaps.specs.Ranges.{AreApart, Has}
+
+eq_nat : (x y : ℕ) → is_eq (nat_cmp x y) ≡ nat_eq x y
+eq_nat x y = grind (arith, nat_tests)
+
+-- a number is this one, or another
+this_or : (x y : ℕ) → (x ≡ y) ⊎ (is_eq (nat_cmp x y) ≡ false)
+this_or x y = grind (arith, nat_tests)
+
+this : (x y : ℕ) → x ≡ y → is_eq (nat_cmp x y) ≡ true
+this x y e = grind (arith, nat_tests)
+
+some_some : {A : Type 0} (x y : A) → Some x ≡ Some y → x ≡ y
+some_some x y e = cc
+
+-- ---- a range is taken out
+
+-- what is left was there
+pub left : (f g : ℕ → Option ℕ) (s : ℕ) → ((q : ℕ) → g q ≡ cond (is_eq (nat_cmp s q)) None (f q)) → (t e : ℕ) → g t ≡ Some e → f t ≡ Some e
+left f g s out t e is = elim (this_or s t) [
+  | inl here ↦ absurd (gone (sym is ∙ out t ∙ ap (λ b. cond b None (f t)) (this s t here)))
+  | inr other ↦ ap (λ b. cond b None (f t)) (sym other) ∙ sym (out t) ∙ is
+]
+  where
+    gone : Some e ≡ None → ⊥
+    gone h = cc
+
+-- a clock that was in a range is in what is left, or in the range that was taken out
+pub still : (f g : ℕ → Option ℕ) (s e c : ℕ) → f s ≡ Some e → ((q : ℕ) → g q ≡ cond (is_eq (nat_cmp s q)) None (f q)) → Has f c → Has g c ⊎ ((s ≤ c) × (c ≤ e))
+still f g s e c at out (t, u, is, from, to) = elim (this_or s t) [
+  | inl here ↦ inr ((omega (arith, here, from)), omega (arith, to, some_some u e (sym is ∙ ap f (sym here) ∙ at)))
+  | inr other ↦ inl (t, u, out t ∙ ap (λ b. cond b None (f t)) other ∙ is, from, to)
+]
+
+pub still_apart : (f g : ℕ → Option ℕ) (s : ℕ) → ((q : ℕ) → g q ≡ cond (is_eq (nat_cmp s q)) None (f q)) → AreApart f → AreApart g
+still_apart f g s out apart = record {
+  some = λ t e is. apart.some t e (left f g s out t e is);
+  gap = λ t e u d is has less. apart.gap t e u d (left f g s out t e is) (left f g s out u d has) less;
+}
+
+-- ---- a range is put in
+
+pub put_in : (f h : ℕ → Option ℕ) (lo hi : ℕ) → ((q : ℕ) → h q ≡ cond (is_eq (nat_cmp lo q)) (Some hi) (f q)) → (t e : ℕ) → h t ≡ Some e → ((t ≡ lo) × (e ≡ hi)) ⊎ (f t ≡ Some e)
+put_in f h lo hi in_ t e is = elim (this_or lo t) [
+  | inl here ↦ inl (sym here, some_some e hi (sym is ∙ in_ t ∙ ap (λ b. cond b (Some hi) (f t)) (this lo t here)))
+  | inr other ↦ inr (ap (λ b. cond b (Some hi) (f t)) (sym other) ∙ sym (in_ t) ∙ is)
+]
+
+-- none of the ranges touches the clocks that are put in
+abbrev pub AreFar : (ℕ → Option ℕ) → ℕ → ℕ → Type 0
+AreFar f lo hi = (s e : ℕ) → f s ≡ Some e → (e + 1 < lo) ⊎ (hi + 1 < s)
+
+pub now_apart : (f h : ℕ → Option ℕ) (lo hi : ℕ) → ((q : ℕ) → h q ≡ cond (is_eq (nat_cmp lo q)) (Some hi) (f q)) → AreApart f → AreFar f lo hi → 1 ≤ lo → lo ≤ hi → hi ≤ 4611686018427387903 → AreApart h
+now_apart f h lo hi in_ apart far one order most = record {
+  some = λ s e is. elim (put_in f h lo hi in_ s e is) [ inl new ↦ (omega (arith, new.0), (omega (arith, new.0, new.1), omega (arith, new.1))) | inr old ↦ apart.some s e old ];
+  gap = λ s e t d is has less. elim (put_in f h lo hi in_ s e is) [
+    | inl new ↦ elim (put_in f h lo hi in_ t d has) [
+      | inl also ↦ absurd (omega (arith, new.0, also.0, less))
+      | inr old ↦ elim (far t d old) [
+        | inl before ↦ absurd (omega (arith, new.0, less, before, (apart.some t d old).1.0))
+        | inr after ↦ omega (arith, new.1, after)
+      ]
+    ]
+    | inr was ↦ elim (put_in f h lo hi in_ t d has) [
+      | inl new ↦ elim (far s e was) [
+        | inl before ↦ omega (arith, new.0, before)
+        | inr after ↦ absurd (omega (arith, new.0, less, after, order))
+      ]
+      | inr old ↦ apart.gap s e t d was old less
+    ]
+  ];
+}
+
+-- the clocks are those of the ranges and those that were put in
+pub now_has : (f h : ℕ → Option ℕ) (lo hi c : ℕ) → ((q : ℕ) → h q ≡ cond (is_eq (nat_cmp lo q)) (Some hi) (f q)) → Has h c → Has f c ⊎ ((lo ≤ c) × (c ≤ hi))
+now_has f h lo hi c in_ (t, e, is, from, to) = elim (put_in f h lo hi in_ t e is) [
+  | inl new ↦ inr (omega (arith, new.0, from), omega (arith, new.1, to))
+  | inr old ↦ inl (t, e, old, from, to)
+]
+
+pub has_now : (f h : ℕ → Option ℕ) (lo hi c : ℕ) → ((q : ℕ) → h q ≡ cond (is_eq (nat_cmp lo q)) (Some hi) (f q)) → AreApart f → AreFar f lo hi → lo ≤ hi → Has f c ⊎ ((lo ≤ c) × (c ≤ hi)) → Has h c
+has_now f h lo hi c in_ apart far order (inl (t, e, is, from, to)) = elim (this_or lo t) [
+  | inl here ↦ elim (far t e is) [ inl before ↦ absurd (omega (arith, here, before, (apart.some t e is).1.0)) | inr after ↦ absurd (omega (arith, here, after, order)) ]
+  | inr other ↦ (t, e, in_ t ∙ ap (λ b. cond b (Some hi) (f t)) other ∙ is, from, to)
+]
+has_now f h lo hi c in_ apart far order (inr (from, to)) = (lo, hi, in_ lo ∙ ap (λ b. cond b (Some hi) (f lo)) (this lo lo refl), from, to)
+
+-- ---- one turn: a near range is taken out, and the clocks grow by it
+
+near_hull : (lo hi s e c : ℕ) → lo ≤ hi → s ≤ e → s ≤ hi + 1 → lo ≤ e + 1 → min lo s ≤ c → c ≤ max hi e → ((s ≤ c) × (c ≤ e)) ⊎ ((lo ≤ c) × (c ≤ hi))
+near_hull lo hi s e c order some up down from to = grind (arith, nat_tests)
+
+hull_has : (lo hi s e c : ℕ) → ((s ≤ c) × (c ≤ e)) ⊎ ((lo ≤ c) × (c ≤ hi)) → (min lo s ≤ c) × (c ≤ max hi e)
+hull_has lo hi s e c either = grind (arith, nat_tests)
+
+pub turn_to : (f g : ℕ → Option ℕ) (lo hi s e c : ℕ) → f s ≡ Some e → ((q : ℕ) → g q ≡ cond (is_eq (nat_cmp s q)) None (f q)) → lo ≤ hi → s ≤ e → s ≤ hi + 1 → lo ≤ e + 1 → Has g c ⊎ ((min lo s ≤ c) × (c ≤ max hi e)) → Has f c ⊎ ((lo ≤ c) × (c ≤ hi))
+turn_to f g lo hi s e c at out order some up down (inl (t, u, is, from, to)) = inl (t, u, left f g s out t u is, from, to)
+turn_to f g lo hi s e c at out order some up down (inr (from, to)) = elim (near_hull lo hi s e c order some up down from to) [ inl old ↦ inl (s, e, at, old.0, old.1) | inr new ↦ inr new ]
+
+pub turn_from : (f g : ℕ → Option ℕ) (lo hi s e c : ℕ) → f s ≡ Some e → ((q : ℕ) → g q ≡ cond (is_eq (nat_cmp s q)) None (f q)) → Has f c ⊎ ((lo ≤ c) × (c ≤ hi)) → Has g c ⊎ ((min lo s ≤ c) × (c ≤ max hi e))
+turn_from f g lo hi s e c at out (inl has) = elim (still f g s e c at out has) [ inl more ↦ inl more | inr here ↦ inr (hull_has lo hi s e c (inl here)) ]
+turn_from f g lo hi s e c at out (inr new) = inr (hull_has lo hi s e c (inr new))
+
+-- ---- the run from 1
+
+pub run_within : (f : ℕ → Option ℕ) (e c : ℕ) → f 1 ≡ Some e → 1 ≤ c → c ≤ e → Has f c
+run_within f e c is from to = (1, e, is, from, to)
+
+pub run_end : (f : ℕ → Option ℕ) (e : ℕ) → AreApart f → f 1 ≡ Some e → Has f (e + 1) → ⊥
+run_end f e apart is (t, u, has, from, to) = elim (order 1 t (apart.some t u has).0) [
+  | inl same ↦ omega (arith, to, some_some u e (sym has ∙ ap f (sym same) ∙ is))
+  | inr less ↦ omega (arith, apart.gap 1 e t u is has less, from)
+]
+  where
+    order : (a b : ℕ) → a ≤ b → (a ≡ b) ⊎ (a < b)
+    order a b le = grind (arith, nat_tests)
+
+pub no_run : (f : ℕ → Option ℕ) → AreApart f → f 1 ≡ None → Has f 1 → ⊥
+no_run f apart is (t, u, has, from, to) = gone (sym has ∙ ap f (one t from (apart.some t u has).0) ∙ is)
+  where
+    one : (t : ℕ) → t ≤ 1 → 1 ≤ t → t ≡ 1
+    one t le ge = omega arith
+
+    gone : Some u ≡ None → ⊥
+    gone h = cc
+
+-- ---- near and far
+
+pub far_before : (f : ℕ → Option ℕ) (lo hi s e : ℕ) → AreApart f → f s ≡ Some e → e + 1 < lo → ((t : ℕ) → is_gt (nat_cmp t (hi + 1)) ≡ false → IsSome (f t) → is_lt (nat_cmp s t) ≡ false) → AreFar f lo hi
+far_before f lo hi s e apart at before last t u is = elim (up_to t (hi + 1)) [
+  | inl within ↦ elim (not_after s t (last t within (is_some (f t) u is))) [
+    | inl same ↦ inl (omega (arith, before, some_some u e (sym is ∙ ap f same ∙ at)))
+    | inr less ↦ inl (omega (arith, apart.gap t u s e is at less, before, (apart.some s e at).1.0))
+  ]
+  | inr past ↦ inr past
+]
+  where
+    up_to : (t h : ℕ) → (is_gt (nat_cmp t h) ≡ false) ⊎ (h < t)
+    up_to t h = grind (arith, nat_tests)
+
+    not_after : (s t : ℕ) → is_lt (nat_cmp s t) ≡ false → (t ≡ s) ⊎ (t < s)
+    not_after s t h = grind (arith, nat_tests)
+
+    is_some : (x : Option ℕ) (u : ℕ) → x ≡ Some u → IsSome x
+    is_some None u h = cc
+    is_some (Some y) u h = refl
+
+pub far_all : (f : ℕ → Option ℕ) (lo hi : ℕ) → ((t : ℕ) → is_gt (nat_cmp t (hi + 1)) ≡ false → f t ≡ None) → AreFar f lo hi
+far_all f lo hi none t u is = elim (up_to t (hi + 1)) [ inl within ↦ absurd (gone (sym is ∙ none t within)) | inr past ↦ inr past ]
+  where
+    up_to : (t h : ℕ) → (is_gt (nat_cmp t h) ≡ false) ⊎ (h < t)
+    up_to t h = grind (arith, nat_tests)
+
+    gone : Some u ≡ None → ⊥
+    gone h = cc
+
+pub if_none : {X A B : Type 0} (x : Option X) → IfNone x A → (A → B) → IfNone x B
+if_none None h f = f h
+if_none (Some y) h f = tt

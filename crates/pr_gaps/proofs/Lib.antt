@@ -1,0 +1,4 @@
+pub mod Joined
+pub mod Covered
+pub mod Sets
+pub mod Least

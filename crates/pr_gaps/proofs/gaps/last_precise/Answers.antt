@@ -1,0 +1,16 @@
+use Rattle.std.proofs.Common.{arith}
+use Rattle.pr_gaps.specs.Gaps.{IsToldIn}
+use Rattle.pr_gaps.proofs.Least.{raised_more, raised_rest, zero_rest}
+use Rattle.pr_gaps.proofs.gaps.last_precise.Goals as goal
+
+pub loop-n-init : goal.loop-n-init
+loop-n-init c = rw c.zero-precise.ensures (record { done = λ w lt. absurd (omega arith); rest = λ w lt le. zero_rest w lt })
+
+pub loop-n-preserved : goal.loop-n-preserved
+loop-n-preserved c = rw c.raised-precise.ensures (record {
+  done = raised_more (IsToldIn c.args.own c.args.vector.now c.args.row.now) c.args.vector.now c.loop-n.precise c.loop-n.n c.precise_clock.result (omega arith) c.precise_clock.ensures.value c.loop-n.invariant.done c.loop-n.invariant.rest;
+  rest = raised_rest c.loop-n.precise c.loop-n.n c.precise_clock.result c.loop-n.invariant.rest;
+})
+
+pub returns-clause-value : goal.returns-clause-value
+returns-clause-value c w lt = c.loop-n.invariant.done w (omega arith)

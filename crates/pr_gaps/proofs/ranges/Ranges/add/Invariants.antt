@@ -1,0 +1,18 @@
+use Rattle.std.proofs.Common.{◌≤◌, ℕ}
+use Rattle.std.specs.Prelude.{◌⊎◌, ◌↔◌}
+use Rattle.std.specs.BTreeMap.{btree_map_len}
+use Rattle.pr_gaps.specs.Ranges.{AreApart, HasClock, end_at}
+use Rattle.pr_gaps.proofs.ranges.Ranges.add.Given as goal
+
+-- the ranges that are left and the clocks so far are together what they were
+abbrev pub invariant-loop-start : goal.invariant-loop-start
+invariant-loop-start l = record {
+  apart : AreApart (end_at l.self-inside.ends.entries);
+  some : 1 ≤ l.first;
+  order : l.first ≤ l.last;
+  most : l.last ≤ 4611686018427387903;
+  same : (c : ℕ) → (HasClock l.self-inside.ends.entries c ⊎ ((l.first ≤ c) × (c ≤ l.last))) ↔ (HasClock l.initial.self-inside.ends.entries c ⊎ ((l.lo ≤ c) × (c ≤ l.hi)));
+}
+
+abbrev pub decreases-loop-start : goal.decreases-loop-start
+decreases-loop-start l = btree_map_len l.self-inside.ends

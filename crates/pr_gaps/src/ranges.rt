@@ -1,0 +1,99 @@
+// Sets of clocks.
+ghost use Rattle.pr_gaps.specs.Ranges.{AreApart, Has, HasClock, end_at};
+ghost use Rattle.std.specs.Ordering.{is_lt, nat_cmp};
+ghost use Rattle.std.specs.BTreeMap.Range.{IsLeBy};
+ghost use Rattle.std.specs.Prelude.{◌≡◌, ◌≤◌, ◌<◌, ◌+◌, ◌⊎◌, ◌↔◌, ℕ, [], IfNone, IfSome, IsSome, OnOk, None, Some, false};
+
+use pr_stamps::{MAX, NoMemory};
+use std::alloc::Global;
+use std::collections::BTreeMap;
+use std::marker::Model;
+use std::ops::Bound;
+
+// A set of clocks, as ranges that neither overlap nor touch: by the start of each its end.
+#[derive(Drop)]
+pub struct Ranges {
+    ends: BTreeMap<u64, u64>,
+}
+
+impl Model for Ranges {
+    ghost use Rattle.std.specs.Prelude.{List, ℕ};
+    ghost use Rattle.pr_gaps.specs.Ranges.{AreApart, end_at};
+
+    ghost Value = { List (ℕ × ℕ) };
+
+    ghost view = { λ r. r.ends.entries };
+
+    ghost invariant = { λ r. AreApart (end_at r.ends.entries) };
+}
+
+impl Ranges {
+    pub fn new(alloc: Global) -> Ranges
+        ensures { result ≡ [] }
+    {
+        Ranges {
+            ends: BTreeMap::new(alloc),
+        }
+    }
+
+    // The clocks from `lo` to `hi` are in the set too. It takes time logarithmic in the ranges, for each range that is
+    // joined with these clocks.
+    pub fn add(&mut self, lo: u64, hi: u64) -> Result<(), NoMemory>
+        requires some { 1 ≤ lo }
+        requires order { lo ≤ hi }
+        requires most { hi ≤ 4611686018427387903 }
+        ensures { OnOk result ((c : ℕ) → HasClock self.new c ↔ (HasClock self.old c ⊎ ((lo ≤ c) × (c ≤ hi)))) }
+    {
+        let (mut first, mut last) = (lo, hi);
+        while let Some((start, end)) = touching(&self.ends, first, last) {
+            self.ends.remove(&start);
+            first = first.min(start);
+            last = last.max(end);
+        }
+        self.ends.insert(first, last)?;
+        Ok(())
+    }
+
+    // The greatest clock up to which each clock from 1 is in the set, in logarithmic time.
+    pub fn run(&self) -> u64
+        ensures within { (c : ℕ) → 1 ≤ c → c ≤ result → HasClock self.now c }
+        ensures end { ¬ HasClock self.now (result + 1) }
+    {
+        match self.ends.get(&1) {
+            Some(end) => *end,
+            None => 0,
+        }
+    }
+}
+
+// A range that overlaps or touches the clocks from `lo` to `hi`.
+fn touching(ends: &BTreeMap<u64, u64>, lo: u64, hi: u64) -> Option<(u64, u64)>
+    requires apart { AreApart (end_at ends.now.entries) }
+    requires most { hi ≤ 4611686018427387903 }
+    ensures range { IfSome result (λ r. end_at ends.now.entries r.0 ≡ Some r.1) }
+    ensures near { IfSome result (λ r. (r.0 ≤ hi + 1) × (lo ≤ r.1 + 1)) }
+    ensures none { IfNone result ((s e : ℕ) → end_at ends.now.entries s ≡ Some e → (e + 1 < lo) ⊎ (hi + 1 < s)) }
+{
+    let (start, end) = last_up_to(ends, hi + 1)?;
+    if lo <= end + 1 {
+        Some((start, end))
+    } else {
+        None
+    }
+}
+
+// The last range that begins at or before the clock.
+fn last_up_to(ends: &BTreeMap<u64, u64>, most: u64) -> Option<(u64, u64)>
+    ensures range { IfSome result (λ r. end_at ends.now.entries r.0 ≡ Some r.1) }
+    ensures most { IfSome result (λ r. r.0 ≤ most) }
+    ensures last { IfSome result (λ r. (s : ℕ) → IsLeBy nat_cmp s most → IsSome (end_at ends.now.entries s) → is_lt (nat_cmp r.0 s) ≡ false) }
+    ensures none { IfNone result ((s : ℕ) → IsLeBy nat_cmp s most → end_at ends.now.entries s ≡ None) }
+{
+    match ends
+        .range((Bound::Unbounded, Bound::Included(most)))
+        .next_back()
+    {
+        Some((start, end)) => Some((*start, *end)),
+        None => None,
+    }
+}

@@ -1,0 +1,71 @@
+// The points that were told for one set.
+ghost use Rattle.pr_gaps.specs.Rows.{HasPoint, IsRowCovered, clocks_at};
+ghost use Rattle.pr_gaps.specs.Ranges.{HasClock};
+ghost use Rattle.pr_stamps.specs.Point.{Point};
+ghost use Rattle.pr_vectors.specs.Vector.{Le};
+ghost use Rattle.std.specs.Prelude.{◌≡◌, ◌≤◌, ◌<◌, ◌+◌, ◌⊎◌, ◌↔◌, ℕ, IfOk, OnOk};
+
+use crate::ranges::Ranges;
+use pr_stamps::{NODES, NoMemory};
+use pr_vectors::Vector;
+use std::alloc::Global;
+use std::marker::Model;
+
+// By node the clocks that were told.
+#[derive(Drop)]
+pub struct Row {
+    clocks: Vec<Ranges>,
+}
+
+impl Model for Row {
+    ghost use Rattle.std.specs.Prelude.{◌≡◌, List, ℕ, length};
+
+    ghost Value = { List (List (ℕ × ℕ)) };
+
+    ghost view = { λ r. r.clocks.items };
+
+    ghost invariant = { λ r. length r.clocks.items ≡ 32 };
+}
+
+impl Row {
+    pub fn new(alloc: Global) -> Result<Row, NoMemory>
+        ensures { IfOk result (λ r. (p : Point) → ¬ HasPoint r p) }
+    {
+        let mut clocks = Vec::with_capacity(alloc, NODES as usize)?;
+        for _ in 0..NODES {
+            clocks.push(Ranges::new(alloc))?;
+        }
+        Ok(Row { clocks })
+    }
+
+    // The points between the vectors are told.
+    pub fn cover(&mut self, from: &Vector, to: &Vector) -> Result<(), NoMemory>
+        ensures { OnOk result (IsRowCovered self.old self.new from.now to.now) }
+    {
+        for n in 0..NODES {
+            let clocks = &mut self.clocks[n as usize];
+            add_between(clocks, from.at(n), to.at(n))?;
+        }
+        Ok(())
+    }
+
+    // The greatest clock of the node up to which each point was told.
+    pub fn run(&self, node: u32) -> u64
+        requires { node < 32 }
+        ensures within { (c : ℕ) → 1 ≤ c → c ≤ result → HasPoint self.now (record { clock = c; node = node }) }
+        ensures end { ¬ HasPoint self.now (record { clock = result + 1; node = node }) }
+    {
+        self.clocks[node as usize].run()
+    }
+}
+
+// The clocks above `from`, up to `to`, are in the set too.
+fn add_between(clocks: &mut Ranges, from: u64, to: u64) -> Result<(), NoMemory>
+    requires { to ≤ 4611686018427387903 }
+    ensures { OnOk result ((c : ℕ) → HasClock clocks.new c ↔ (HasClock clocks.old c ⊎ ((from < c) × (c ≤ to)))) }
+{
+    if from < to {
+        clocks.add(from + 1, to)?;
+    }
+    Ok(())
+}
