@@ -8,8 +8,11 @@ fn lists_take_items(rt: HostRuntime) -> Result<(), Fail> {
     list.extend(b"de").ok().ok_or("no memory")?;
     assert_eq!(rt; list.as_slice(), b"abcde".as_slice());
     assert_eq!(rt; (list.len(), list.is_empty()), (5, false));
-    let again = Seq::from_vec(list.into_vec());
+    let mut again = Seq::from_vec(list.into_vec());
     assert_eq!(rt; again.as_slice(), b"abcde".as_slice());
+    again.truncate(9);
+    again.truncate(2);
+    assert_eq!(rt; again.as_slice(), b"ab".as_slice());
     let mut roomy = Roomy::new(rt.alloc());
     roomy.reserve(2).ok().ok_or("no memory")?;
     roomy.push(7u64);
