@@ -1,5 +1,10 @@
 -- What the map of rows has at a name.
-use Rattle.std.proofs.Common.{◌≡◌, ℕ, List, [], ◌∷◌, Option, None, Some, Bool, true, false, cond, refl, sym, ◌∙◌, ap, subst, map, filter, find, not, ◌&&◌}
+use Rattle.std.proofs.Common.{◌≡◌, ℕ, List, [], ◌∷◌, Option, None, Some, Bool, true, false, cond, refl, sym, ◌∙◌, ap, subst, map, filter, find, not, ◌&&◌, get_or, arith}
+use Rattle.std.specs.Prelude.{AllPairs, IsTrue}
+use Rattle.std.specs.List.Sorted.{IsStrictlySortedBy}
+use Rattle.std.specs.declared.cmp.Ordering.TheVariants.{Less}
+use Rattle.std.proofs.lemmas.List.Kept.{AllPairs-cons}
+use Rattle.std.proofs.lemmas.List.Elements.{All-from_recursion}
 use Rattle.std.specs.Map.Calls.{RetainsPairs}
 use Rattle.std.specs.Map.{lookup, keys_of}
 use Rattle.std.specs.List.{slice_get}
@@ -127,6 +132,15 @@ none_passing {X = X} p q same (x ∷ es) is = step (p x.0) (same x.0) is (none_p
 pub head_key : {X : Type 0} (es : List (List ℕ × X)) (k : List ℕ) (v : X) → slice_get es 0 ≡ Some (k, v) → Some k ≡ find (λ (_ : List ℕ). true) (keys_of es)
 head_key [] k v is = cc
 head_key (e ∷ es) k v is = cc
+
+-- the map's keys are in the order of names
+pub keys_rise : (ks : List (List ℕ)) → IsStrictlySortedBy (slice_cmp nat_cmp) ks → AllPairs (λ (a : List ℕ) (b : List ℕ). IsTrue (name_lt a b)) ks
+unfolding IsStrictlySortedBy
+keys_rise [] h = λ i j d lt within. absurd (omega arith)
+keys_rise (k ∷ ks) h =
+    AllPairs-cons (λ (a : List ℕ) (b : List ℕ). IsTrue (name_lt a b)) k ks
+    (λ i d lt. lt_cmp k (get_or ks i d) ∙ ap is_lt (All-from_recursion (λ (y : List ℕ). slice_cmp nat_cmp k y ≡ Less) ks h.0 i d lt))
+    (keys_rise ks h.1)
 
 pub after_name : (a o : List ℕ) → (is_lt (slice_cmp nat_cmp a o) && not false) ≡ name_lt a o
 after_name a o = and_true (is_lt (slice_cmp nat_cmp a o)) ∙ sym (lt_cmp a o)

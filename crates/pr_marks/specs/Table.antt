@@ -1,5 +1,5 @@
 -- The table of marks: by name, and up to a floor.
-use Rattle.std.specs.Prelude.{◌≡◌, ℕ, Bool, true, List, [], Option, None, Some, cond, map}
+use Rattle.std.specs.Prelude.{◌≡◌, ℕ, Bool, true, List, [], Option, None, Some, cond, map, AllPairs, IsTrue}
 use Rattle.std.specs.Option.{option_map}
 use Rattle.std.specs.Map.{lookup}
 use Rattle.std.specs.Str.{bytes_eq}
@@ -33,6 +33,10 @@ marks_of t o = marks_in (row_of t o)
 -- the names that have a newest known stamp, in order
 abbrev pub names_of : Table → List (List ℕ)
 names_of t = map (λ (r : List ℕ × Kept). r.0) t.rows
+
+-- each of these names comes before all later ones
+abbrev pub NamesRise : Table → Type 0
+NamesRise t = AllPairs (λ (a : List ℕ) (b : List ℕ). IsTrue (name_lt a b)) (names_of t)
 
 -- the name comes after this one, if there is one
 abbrev pub is_after : Option (List ℕ) → List ℕ → Bool

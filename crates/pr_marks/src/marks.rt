@@ -1,7 +1,7 @@
 // The table of marks.
 ghost use Rattle.pr_marks.specs.Pairs.{pairs_of};
 ghost use Rattle.pr_marks.specs.Row.{Kept, Rises, is_covered, with_mark};
-ghost use Rattle.pr_marks.specs.Table.{IsForgotten, IsMarked, IsRaised, is_after, marks_in, marks_of, names_of, newest_of, raised_to};
+ghost use Rattle.pr_marks.specs.Table.{IsForgotten, IsMarked, IsRaised, NamesRise, is_after, marks_in, marks_of, names_of, newest_of, raised_to};
 ghost use Rattle.pr_vectors.specs.Vector.{IsVector, zero_vector};
 ghost use Rattle.std.specs.Prelude.{◌≡◌, [], true, false, None, Some, IfOk, IsErr, OnErr, OnOk, cond, find};
 ghost use Rattle.std.specs.Option.{option_map};
@@ -129,8 +129,10 @@ impl Marks {
     /// The least name that has a newest known stamp and comes after `above`, in time logarithmic in the names; None
     /// exactly where there is none.
     pub fn next_known(&self, above: &Option<Name>) -> Option<Name>
-        ensures { result ≡ find (is_after above.now) (names_of self.now) }
+        ensures value { result ≡ find (is_after above.now) (names_of self.now) }
+        ensures order { NamesRise self.now }
     {
+        let _ = self.rows.len();
         match above {
             Some(name) => next_after(&self.rows, name),
             None => first(&self.rows),
