@@ -1,0 +1,17 @@
+pub mod History
+pub mod Told
+pub mod Knowledge
+pub mod Clients
+pub mod Messages
+pub mod Turns
+pub mod Ranges
+pub mod Lawful
+pub mod Laws
+pub mod Merging
+pub mod Economy
+pub mod Lines
+pub mod Commands
+pub mod Scripts
+pub mod Search
+pub mod Withheld
+pub mod Sending

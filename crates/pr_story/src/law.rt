@@ -1,0 +1,95 @@
+// What holds of every valid history. Each law is the contract of a function that does nothing.
+ghost use Rattle.pr_story.specs.Commands.{CommandsDetermine, OneTurn};
+ghost use Rattle.pr_story.specs.Economy.{FewInvalidations};
+ghost use Rattle.pr_story.specs.History.{NodeEntry, Plan};
+ghost use Rattle.pr_story.specs.Lawful.{Valid};
+ghost use Rattle.pr_story.specs.Laws.{AnswersAlike, FactsThroughout, IsShort, MergesAreHonest, NeverBehind, NodesAnswerAlike, NoneGoesBack, OneMore, SentUseful};
+ghost use Rattle.pr_story.specs.Lines.{LinesDetermine};
+ghost use Rattle.pr_story.specs.Merging.{Merges};
+ghost use Rattle.pr_story.specs.Scripts.{WholeIsBegun};
+ghost use Rattle.pr_story.specs.Turns.{TargetsMeet};
+ghost use Rattle.std.specs.Prelude.{List};
+
+/// At every place of a valid history each node's vector is causally closed, no node is told more of a writer than the
+/// writer, every message that was sent is honest, each write that a node covers is known to it or its name is dark,
+/// and where a set is precise, the newest known stamp and the marks are those of the covered writes.
+pub fn valid_histories_are_honest()
+    ensures { (plan : Plan) (h : List NodeEntry) → Valid plan h → FactsThroughout plan h }
+{}
+
+/// Each message is of use to its stream when it is sent.
+pub fn sent_messages_are_useful()
+    ensures { (plan : Plan) (h : List NodeEntry) → Valid plan h → SentUseful plan h }
+{}
+
+/// No clock is above the number of writes, and no time above the number of entries.
+pub fn valid_histories_are_short()
+    ensures { (plan : Plan) (h : List NodeEntry) → Valid plan h → IsShort h }
+{}
+
+/// One entry more, which its node's own journal allows, at its node and with its cause, keeps a history valid.
+pub fn one_more_entry()
+    ensures { OneMore }
+{}
+
+/// The entries of jobs that share no client and no stream, merged in any order that keeps that of each node and of
+/// each job, keep a history valid.
+pub fn jobs_merge()
+    ensures { Merges }
+{}
+
+/// Over a client's writes and answers, at whatever nodes, the vectors never fall, and each covers its earlier writes.
+pub fn no_client_goes_back()
+    ensures { (plan : Plan) (h : List NodeEntry) → Valid plan h → NoneGoesBack h }
+{}
+
+/// A client that never moves is never behind.
+pub fn who_stays_is_never_behind()
+    ensures { NeverBehind }
+{}
+
+/// Precise answers for one name at equal vectors are alike, at whatever nodes and places.
+pub fn answers_are_alike()
+    ensures { (plan : Plan) (h : List NodeEntry) → Valid plan h → AnswersAlike h }
+{}
+
+/// So are any that two nodes with equal vectors may give.
+pub fn equal_vectors_answer_alike()
+    ensures { NodesAnswerAlike }
+{}
+
+/// The target that a node makes of the dark and the omitted names is the one that a turn wants.
+pub fn made_targets_are_targets()
+    ensures { TargetsMeet }
+{}
+
+/// A stream has one turn.
+pub fn each_stream_has_one_turn()
+    ensures { OneTurn }
+{}
+
+/// The commands determine the history, where nothing runs beside.
+pub fn commands_determine_the_history()
+    ensures { CommandsDetermine }
+{}
+
+/// The lines determine the history, but for the callers' numbers.
+pub fn lines_determine_the_history()
+    ensures { LinesDetermine }
+{}
+
+/// What two honest imprecise invalidations merge into is honest.
+pub fn merged_messages_are_honest()
+    ensures { (plan : Plan) (h : List NodeEntry) → Valid plan h → MergesAreHonest plan h }
+{}
+
+/// While its source hears nothing new and it is not attached anew, a stream sends at most twice as many invalidations
+/// as it has writes to send, and one more.
+pub fn few_invalidations_are_sent()
+    ensures { FewInvalidations }
+{}
+
+/// A history that is a script's is also one of a run that may have been cut off.
+pub fn whole_runs_are_begun()
+    ensures { WholeIsBegun }
+{}
