@@ -1,0 +1,9 @@
+use Rattle.std.proofs.Common.{arith}
+use Rattle.pr_script.proofs.Spelled.{sets_turn, sets_end}
+use Rattle.pr_script.proofs.spelling.sets_fields.Goals as goal
+
+pub loop-set-preserved : goal.loop-set-preserved
+loop-set-preserved c = sets_turn c.args.sets.now c.loop-set.set-index c.set-item.result c.loop-set.out _ _ (omega arith) c.set-item.is c.in_ok-set_field.ensures c.loop-set.invariant
+
+pub returns : goal.returns
+returns c = sets_end c.args.sets.now c.loop-set.set-index c.loop-set.out _ (omega arith) c.loop-set.invariant

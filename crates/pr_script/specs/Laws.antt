@@ -1,0 +1,27 @@
+-- What holds of all scripts.
+use Rattle.std.specs.Prelude.{◌≡◌, ℕ, List, Result, Ok, map}
+use Rattle.pr_script.specs.declared.command.Command.{Command}
+use Rattle.pr_script.specs.declared.script.Script.{Script}
+use Rattle.pr_script.specs.Reading.{Means}
+use Rattle.pr_script.specs.Printing.{script_text}
+
+-- bytes have one meaning
+abbrev pub HaveOneMeaning : Type 0
+HaveOneMeaning = (bytes : List ℕ) (a b : Result Script (ℕ × ℕ)) → Means bytes a → Means bytes b → a ≡ b
+
+-- and each have one
+abbrev pub HaveAMeaning : Type 0
+HaveAMeaning = (bytes : List ℕ) → (a : Result Script (ℕ × ℕ)) × Means bytes a
+
+-- the commands without the numbers of their lines
+abbrev pub commands_of : Script → List Command
+commands_of s = map (λ (c : ℕ × Command). c.1) s.commands
+
+-- the same script but for the numbers of lines
+pub record IsAlike (s t : Script) : Type 0 where
+  pub decls : s.decls ≡ t.decls
+  pub commands : commands_of s ≡ commands_of t
+
+-- what a script is printed as is read as the same script but for the numbers of lines
+abbrev pub ReadsBack : Type 0
+ReadsBack = (bytes : List ℕ) (s : Script) → Means bytes (Ok s) → (t : Script) × Means (script_text s) (Ok t) × IsAlike s t

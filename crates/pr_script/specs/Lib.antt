@@ -1,0 +1,12 @@
+pub mod Fields
+pub mod Texts
+pub mod Sets
+pub mod Labels
+pub mod Packed
+pub mod Known
+pub mod Parts
+pub mod Lines
+pub mod Reading
+pub mod Answers
+pub mod Laws
+pub mod Printing

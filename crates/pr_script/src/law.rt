@@ -1,0 +1,22 @@
+// What holds of all scripts.
+ghost use Rattle.pr_names.specs.Span.{Span};
+ghost use Rattle.pr_script.specs.Laws.{HaveAMeaning, HaveOneMeaning, ReadsBack};
+ghost use Rattle.pr_script.specs.Sets.{share};
+ghost use Rattle.pr_sets.specs.Spans.{IsSet, Meet, has};
+ghost use Rattle.std.specs.Prelude.{◌↔◌, IsTrue, List};
+
+/// Each list of bytes has one meaning: a script, or a line and the least rule that it breaks.
+pub fn scripts_have_one_meaning()
+    ensures one { HaveOneMeaning }
+    ensures some { HaveAMeaning }
+{}
+
+/// The grammar's test on two sets of a node says whether a name is in both.
+pub fn sets_share_a_name_where_intervals_overlap()
+    ensures { (a b : List Span) → IsSet a → IsSet b → IsTrue (share a b) ↔ Meet (has a) (has b) }
+{}
+
+/// What a script is printed as is read as the same script but for the numbers of lines.
+pub fn printed_scripts_read_back()
+    ensures { ReadsBack }
+{}

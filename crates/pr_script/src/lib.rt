@@ -1,0 +1,44 @@
+//! The script language: exact reading with the first fault, in any pieces, and printing.
+#![tactic(auto)]
+
+mod clients;
+mod command;
+mod decl;
+mod declarations;
+mod fault;
+mod fields;
+mod index;
+mod item;
+mod kind;
+mod known;
+mod law;
+mod lines;
+mod nodes;
+mod number;
+mod numbers;
+mod parts;
+mod printer;
+mod progress;
+mod reader;
+mod refusal;
+mod script;
+mod sets;
+mod spelling;
+mod streams;
+mod table;
+#[cfg(test)]
+mod tests;
+mod text;
+mod want;
+mod word;
+
+pub use command::Command;
+pub use decl::{Bytes, Decl, Decls};
+pub use fault::ScriptFault;
+pub use law::{
+    printed_scripts_read_back, scripts_have_one_meaning, sets_share_a_name_where_intervals_overlap,
+};
+pub use printer::print;
+pub use reader::{Reader, read};
+pub use script::Script;
+pub use want::Want;
