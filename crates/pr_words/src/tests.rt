@@ -1,0 +1,106 @@
+use crate::{Job, WordsFault, read};
+use std::alloc::Global;
+use std::test::Fail;
+
+fn words(alloc: Global, list: &[&str]) -> Result<Vec<String>, Fail> {
+    let mut words = Vec::new(alloc);
+    for word in list {
+        words.push(String::from_str(alloc, word)?)?;
+    }
+    Ok(words)
+}
+
+// The job's number in the order of its kinds, with its numbers or the length of its label; none for Usage.
+fn job(alloc: Global, list: &[&str]) -> Result<Option<(u8, u64, u64)>, Fail> {
+    let words = words(alloc, list)?;
+    match read(alloc, &words) {
+        Ok(job) => Ok(Some(shown(&job))),
+        Err(WordsFault::Usage) => Ok(None),
+        Err(WordsFault::NoMemory) => Err(Fail::from("no memory")),
+    }
+}
+
+fn shown(job: &Job) -> (u8, u64, u64) {
+    match job {
+        Job::Sim => (0, 0, 0),
+        Job::Run => (1, 0, 0),
+        Job::Gen { seed, size } => (2, *seed, *size),
+        Job::Check => (3, 0, 0),
+        Job::Kept { stop: None } => (4, 0, 0),
+        Job::Kept { stop: Some(stop) } => (4, *stop, 0),
+        Job::Ask { node } => (5, node.len() as u64, 0),
+        Job::Serve { node } => (6, node.len() as u64, 0),
+        Job::Pull { node } => (7, node.len() as u64, 0),
+    }
+}
+
+#[test]
+fn these_words_are_accepted(rt: HostRuntime) -> Result<(), Fail> {
+    let cases: [(&[&str], (u8, u64, u64)); 18] = [
+        (&["sim"], (0, 0, 0)),
+        (&["--", "sim"], (0, 0, 0)),
+        (&["sim", "--"], (0, 0, 0)),
+        (&["run"], (1, 0, 0)),
+        (&["--seed=7", "gen", "--size", "5"], (2, 7, 5)),
+        (&["gen", "--size=5", "--seed=7"], (2, 7, 5)),
+        (&["--seed", "7", "--size", "5", "--", "gen"], (2, 7, 5)),
+        (&["gen", "--seed", "7", "--size", "5", "--"], (2, 7, 5)),
+        (
+            &["gen", "--seed", "18446744073709551615", "--size", "90000"],
+            (2, 18446744073709551615, 90000),
+        ),
+        (&["gen", "--seed", "0", "--size", "1"], (2, 0, 1)),
+        (&["check"], (3, 0, 0)),
+        (&["kept"], (4, 0, 0)),
+        (&["kept", "--stop", "2"], (4, 2, 0)),
+        (&["--stop", "1000000000", "kept"], (4, 1000000000, 0)),
+        (&["ask", "--node", "B"], (5, 1, 0)),
+        (&["serve", "--node=A1"], (6, 2, 0)),
+        (&["--node", "A", "pull"], (7, 1, 0)),
+        (&["--node=A", "--", "pull"], (7, 1, 0)),
+    ];
+    for (list, want) in cases {
+        assert_eq!(rt; job(rt.alloc(), list)?, Some(want));
+    }
+    Ok(())
+}
+
+#[test]
+fn other_words_are_usage(rt: HostRuntime) -> Result<(), Fail> {
+    let cases: [&[&str]; 30] = [
+        &[],
+        &["sim", "x"],
+        &["--", "sim", "--"],
+        &["sim", "--", "--"],
+        &["--", "--", "sim"],
+        &["gen"],
+        &["gen", "--seed", "7"],
+        &["sim", "--seed", "7"],
+        &["gen", "--seed", "07", "--size", "5"],
+        &["gen", "--seed", "7", "--size", "0"],
+        &["gen", "--seed", "7", "--seed", "8", "--size", "5"],
+        &["--help"],
+        &["gen", "--seed=", "--size", "5"],
+        &["gen", "--seed", "18446744073709551616", "--size", "5"],
+        &["gen", "--seed", "7", "--size", "90001"],
+        &["--", "gen", "--seed", "7", "--size", "5"],
+        &["gen", "--", "--seed", "7", "--size", "5"],
+        &["--seed", "7", "--", "gen", "--size=5"],
+        &["gen", "--seed", "--", "7", "--size", "5"],
+        &["gen", "--size", "5", "--seed"],
+        &["gen", "--seed", "+7", "--size", "5"],
+        &["check", "x"],
+        &["kept", "--stop=1"],
+        &["kept", "--stop", "1000000001"],
+        &["kept", "--stop", "2", "--stop", "3"],
+        &["ask"],
+        &["pull", "--node", "A!"],
+        &["ask", "--node="],
+        &["GEN"],
+        &[""],
+    ];
+    for list in cases {
+        assert_eq!(rt; job(rt.alloc(), list)?, None);
+    }
+    Ok(())
+}
