@@ -1,0 +1,10 @@
+pub mod Loops
+pub mod Cut
+pub mod Items
+pub mod Same
+pub mod SameQuotes
+pub mod SameRows
+pub mod Fields
+pub mod Messages
+pub mod Sentences
+pub mod Histories

@@ -1,0 +1,8 @@
+use Rattle.std.proofs.Common.{◌≡◌, ◌++◌, drop, map}
+use Rattle.pr_text.specs.Texts.{joined, pair_text}
+use Rattle.pr_text.proofs.Loops.{behind}
+use Rattle.pr_text.proofs.rows.push_pairs.Given as goal
+
+-- what is written, then what is still to be written, is all
+abbrev pub invariant-loop-index : goal.invariant-loop-index
+invariant-loop-index l = l.text ++ behind l.index 44 (map (pair_text l.fn.decls) (drop l.index l.fn.pairs)) ≡ l.fn.text ++ joined 44 (map (pair_text l.fn.decls) l.fn.pairs)

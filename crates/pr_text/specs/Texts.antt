@@ -1,0 +1,85 @@
+-- The texts of a line's fields.
+use Rattle.std.specs.Prelude.{ℕ, ◌+◌, ◌/◌, ◌%◌, List, [], ◌∷◌, ◌++◌, map, Bool, Option, None, Some, decimal, not, ◌&&◌, ◌==◌, nat_le, nat_lt, nat_eq, cond}
+use Rattle.std.specs.List.{flat_map}
+use Rattle.pr_stamps.specs.Point.{Point}
+use Rattle.pr_stamps.specs.declared.mark.Mark.{Mark}
+use Rattle.pr_vectors.specs.Vector.{clock_of}
+use Rattle.pr_inval.specs.declared.row.Row.{Row}
+use Rattle.pr_script.specs.declared.decl.Decl.{Decl}
+use Rattle.pr_text.specs.declared.kind.Kind.TheVariants as kinds
+use Rattle.pr_text.specs.Labels.{label, labels_of}
+
+-- ---- lists
+
+-- each behind a byte
+abbrev pub more : ℕ → List (List ℕ) → List ℕ
+more b [] = []
+more b (x ∷ xs) = b ∷ (x ++ more b xs)
+
+-- one after another, with a byte between
+abbrev pub joined : ℕ → List (List ℕ) → List ℕ
+joined b [] = []
+joined b (x ∷ xs) = x ++ more b xs
+
+-- what stands before the item at this place
+abbrev pub between : ℕ → ℕ → List ℕ
+between i b = cond (nat_eq i 0) [] (b ∷ [])
+
+-- joined by commas; a hyphen where there are none
+abbrev pub listed : List (List ℕ) → List ℕ
+listed [] = 45 ∷ []
+listed (x ∷ xs) = joined 44 (x ∷ xs)
+
+-- ---- stamps and vectors
+
+-- CLOCK@LABEL
+abbrev pub stamp_text : List Decl → Point → List ℕ
+stamp_text ds p = decimal p.clock ++ 64 ∷ label kinds.Node ds p.node
+
+abbrev pub prev_text : List Decl → Option Point → List ℕ
+prev_text ds None = 45 ∷ []
+prev_text ds (Some p) = stamp_text ds p
+
+-- LABEL:CLOCK for each of the nodes from this number on that has a clock
+abbrev pub clocks : List (List ℕ) → ℕ → List ℕ → List (List ℕ)
+clocks [] w v = []
+clocks (l ∷ ls) w v = cond (nat_eq (clock_of v w) 0) (clocks ls (w + 1) v) ((l ++ 58 ∷ decimal (clock_of v w)) ∷ clocks ls (w + 1) v)
+
+abbrev pub vector_text : List Decl → List ℕ → List ℕ
+vector_text ds v = listed (clocks (labels_of kinds.Node ds) 0 v)
+
+-- ---- quoted texts
+
+-- a byte that stands for itself: neither a quote nor a backslash
+abbrev pub is_bare : ℕ → Bool
+is_bare b = nat_le 32 b && nat_le b 126 && not (b == 34) && not (b == 92)
+
+-- the digit of a value below 16
+abbrev pub hex_digit : ℕ → ℕ
+hex_digit n = cond (nat_lt n 10) (48 + n) (87 + n)
+
+abbrev pub byte_text : ℕ → List ℕ
+byte_text b = cond (is_bare b) (b ∷ []) (92 ∷ hex_digit (b / 16) ∷ hex_digit (b % 16) ∷ [])
+
+abbrev pub quoted : List ℕ → List ℕ
+quoted bytes = 34 ∷ (flat_map byte_text bytes ++ 34 ∷ [])
+
+-- ---- rows and pairs
+
+-- STAMP<PREV
+abbrev pub mark_text : List Decl → Mark → List ℕ
+mark_text ds m = stamp_text ds m.stamp ++ 60 ∷ prev_text ds m.prev
+
+-- NAME=STAMP(MARKS), or NAME!STAMP(MARKS) where the newest write deletes
+abbrev pub row_text : List Decl → Row → List ℕ
+row_text ds r = r.name ++ cond r.gone 33 61 ∷ (stamp_text ds r.newest ++ 40 ∷ (joined 59 (map (mark_text ds) r.marks) ++ 41 ∷ []))
+
+abbrev pub rows_text : List Decl → List Row → List ℕ
+rows_text ds rows = listed (map (row_text ds) rows)
+
+-- STAMP|STAMP
+abbrev pub pair_text : List Decl → Point × Point → List ℕ
+pair_text ds p = stamp_text ds p.0 ++ 124 ∷ stamp_text ds p.1
+
+abbrev pub pairs_text : List Decl → List (Point × Point) → List ℕ
+pairs_text ds pairs = listed (map (pair_text ds) pairs)

@@ -1,0 +1,43 @@
+// Stamps and numbers.
+ghost use Rattle.pr_text.specs.Texts.{prev_text, stamp_text};
+ghost use Rattle.std.specs.Prelude.{◌≡◌, ◌++◌, ◌∷◌, OnOk, decimal};
+
+use crate::kind::Kind;
+use crate::label::label;
+use itoa::Buffer;
+use pr_script::{Bytes, Decl};
+use pr_stamps::{NoMemory, Stamp};
+
+/// Adds a space and the digits of the number.
+pub fn push_number(number: u64, text: &mut Bytes) -> Result<(), NoMemory>
+    ensures { OnOk result (text.new ≡ text.old ++ 32 ∷ decimal number) }
+{
+    text.push(b' ')?;
+    push_digits(number, text)
+}
+
+pub fn push_digits(number: u64, text: &mut Bytes) -> Result<(), NoMemory>
+    ensures { OnOk result (text.new ≡ text.old ++ decimal number) }
+{
+    let mut buffer = Buffer::new();
+    text.extend(buffer.format(number).as_bytes())
+}
+
+/// Adds CLOCK@LABEL.
+pub fn push_stamp(decls: &[Decl], stamp: &Stamp, text: &mut Bytes) -> Result<(), NoMemory>
+    ensures { OnOk result (text.new ≡ text.old ++ stamp_text decls.now stamp.now) }
+{
+    push_digits(stamp.clock(), text)?;
+    text.push(b'@')?;
+    text.extend(label(decls, Kind::Node, stamp.node()))
+}
+
+/// Adds the stamp, or a hyphen for none.
+pub fn push_prev(decls: &[Decl], prev: &Option<Stamp>, text: &mut Bytes) -> Result<(), NoMemory>
+    ensures { OnOk result (text.new ≡ text.old ++ prev_text decls.now prev.now) }
+{
+    match prev {
+        Some(stamp) => push_stamp(decls, stamp, text),
+        None => text.push(b'-'),
+    }
+}
