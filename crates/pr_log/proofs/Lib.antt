@@ -1,0 +1,12 @@
+pub mod Clocks
+pub mod Places
+pub mod Rows
+pub mod Stamped
+pub mod Names
+pub mod Standing
+pub mod Turns
+pub mod Merge
+pub mod Lit
+pub mod Omitted
+pub mod Logs
+pub mod Counts

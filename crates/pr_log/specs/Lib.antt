@@ -1,0 +1,5 @@
+pub mod Sets
+pub mod Dark
+pub mod Known
+pub mod Waiting
+pub mod Log

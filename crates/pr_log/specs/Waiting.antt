@@ -1,0 +1,28 @@
+-- The next write of a stream: the first writes of the nodes, and the least of them.
+use Rattle.std.specs.Prelude.{◌≡◌, ◌⊎◌, ◌<◌, ℕ, List, Option, None, Some, slice_index_or}
+use Rattle.pr_stamps.specs.Point.{Before}
+use Rattle.pr_names.specs.Span.{Span}
+use Rattle.pr_inval.specs.declared.write_rec.WriteRec.{WriteRec}
+use Rattle.pr_log.specs.Known.{IsWaiting}
+
+-- the least write by stamp that waits, or none
+abbrev pub IsNextOf : List (List (ℕ × WriteRec)) → List ℕ → List Span → Option WriteRec → Type 0
+IsNextOf rows pos sub None = (x : WriteRec) → ¬ IsWaiting rows pos sub x
+IsNextOf rows pos sub (Some t) = IsWaiting rows pos sub t × ((x : WriteRec) → IsWaiting rows pos sub x → ¬ Before x.stamp t.stamp)
+
+-- the first write of a node that is not yet looked at
+abbrev pub head_of : List (Option WriteRec) → ℕ → Option WriteRec
+head_of heads n = slice_index_or heads n None
+
+-- of the heads of the nodes below n the least by stamp, or none
+abbrev pub IsLeastHead : List (Option WriteRec) → ℕ → Option WriteRec → Type 0
+IsLeastHead heads n None = (k : ℕ) → k < n → head_of heads k ≡ None
+IsLeastHead heads n (Some w) =
+    (k : ℕ) × (k < n) × (head_of heads k ≡ Some w)
+    × ((j : ℕ) (u : WriteRec) → j < n → head_of heads j ≡ Some u → ¬ Before u.stamp w.stamp)
+
+-- the lesser of two writes by stamp, if there are any
+abbrev pub IsLesser : Option WriteRec → Option WriteRec → Option WriteRec → Type 0
+IsLesser None b r = r ≡ b
+IsLesser (Some a) None r = r ≡ Some a
+IsLesser (Some a) (Some b) r = ((r ≡ Some b) × Before b.stamp a.stamp) ⊎ ((r ≡ Some a) × ¬ Before b.stamp a.stamp)

@@ -1,0 +1,188 @@
+//! The known writes of a log.
+ghost use Rattle.pr_log.specs.Known.{Has, IsAdded, IsByStamp, IsFirstAbove, IsForgotten, IsForgottenUpTo, IsOmittedBetween, IsOmittedOf, uncovered};
+ghost use Rattle.pr_log.specs.Sets.{is_in_any};
+ghost use Rattle.pr_names.specs.Name.{IsName};
+ghost use Rattle.pr_sets.specs.Spans.{IsSetOf, has};
+ghost use Rattle.std.specs.Str.{bytes_eq};
+ghost use Rattle.pr_inval.specs.declared.write_rec.WriteRec.{WriteRec};
+ghost use Rattle.pr_vectors.specs.Vector.{clock_of};
+ghost use Rattle.std.specs.Prelude.{◌≡◌, ◌≤◌, ◌<◌, ◌+◌, ◌⊎◌, ◌↔◌, ◌||◌, ◌&&◌, ℕ, List, [], not, length, slice_index_or, IfNone, IfOk, IfSome, IsTrue, OnErr, OnOk, Some};
+
+use crate::Steps;
+use crate::collector::Collector;
+use crate::writes::Writes;
+use pr_inval::WriteRec;
+use pr_names::Name;
+use pr_sets::NameSet;
+use pr_stamps::{NODES, NoMemory};
+use pr_vectors::Vector;
+use std::alloc::Global;
+use std::marker::Model;
+use std::sync::ledger::Ledger;
+
+/// The known writes by node and clock. A log makes it and changes it.
+#[derive(Drop)]
+pub struct Index {
+    rows: Vec<Writes>,
+}
+
+impl Model for Index {
+    ghost use Rattle.std.specs.Prelude.{◌≡◌, List, ℕ, length};
+    ghost use Rattle.pr_inval.specs.declared.write_rec.WriteRec.{WriteRec};
+    ghost use Rattle.pr_log.specs.Known.{IsByStamp};
+
+    ghost Value = { List (List (ℕ × WriteRec)) };
+
+    ghost view = { λ i. i.rows.items };
+
+    ghost invariant = { λ i. (length i.rows.items ≡ 32) × IsByStamp i.rows.items };
+}
+
+impl Index {
+    // No write is known.
+    pub(crate) fn new(alloc: Global) -> Result<Index, NoMemory>
+        ensures none { IfOk result (λ i. (x : WriteRec) → ¬ Has i x) }
+        ensures few { IfOk result (λ i. (pos : List ℕ) → uncovered i pos ≡ 0) }
+    {
+        let rows = rows(alloc)?;
+        Ok(Index { rows })
+    }
+
+    // Keeps the write, if no known write has its stamp. It takes time logarithmic in the writes of its node.
+    pub(crate) fn add(&mut self, write: &WriteRec) -> Result<(), NoMemory>
+        ensures ok { OnOk result (IsAdded self.old self.new write.now) }
+        ensures few { OnOk result ((pos : List ℕ) → uncovered self.new pos ≤ uncovered self.old pos + 1) }
+        ensures err { OnErr result (self.new ≡ self.old) }
+    {
+        let node = write.stamp.node() as usize;
+        self.rows[node].add(write)
+    }
+
+    // Drops the writes that the cut covers, each in time logarithmic in the writes of its node.
+    pub(crate) fn forget(&mut self, cut: &Vector)
+        ensures { IsForgotten self.old self.new cut.now }
+    {
+        forget(&mut self.rows, cut);
+    }
+
+    /// The known write of the node with the least clock above this one, in time logarithmic in the node's writes, as
+    /// one step; None exactly where there is none.
+    pub fn next<L: Ledger>(&self, writer: u32, clock: u64, steps: &mut Steps<L>) -> Option<WriteRec>
+        requires { writer < 32 }
+        ensures next { IsFirstAbove self.now writer clock result }
+        ensures step { steps.new ≡ steps.old + 1 }
+    {
+        steps.tick();
+        self.first_above(writer, clock)
+    }
+
+    // The names of known writes between the vectors that are none of these, in time logarithmic in the writes of a
+    // node, for each write between.
+    pub(crate) fn omitted(
+        &self,
+        alloc: Global,
+        from: &Vector,
+        to: &Vector,
+        sub: &NameSet,
+    ) -> Result<NameSet, NoMemory>
+        ensures { IfOk result (λ set. IsSetOf set (IsOmittedBetween self.now from.now to.now sub.now)) }
+    {
+        let mut names = Collector::new(alloc);
+        self.by_stamp();
+        for n in 0..NODES {
+            self.omit(n, from.at(n), to.at(n), sub, &mut names)?;
+        }
+        names.union()
+    }
+
+    // Adds the names of a node's writes above one clock, up to another, that are none of these.
+    fn omit(
+        &self,
+        writer: u32,
+        from: u64,
+        to: u64,
+        sub: &NameSet,
+        names: &mut Collector,
+    ) -> Result<(), NoMemory>
+        requires { writer < 32 }
+        ensures { OnOk result ((o : List ℕ) → IsName o → IsTrue (is_in_any names.new o) ↔ (IsTrue (is_in_any names.old o) ⊎ IsOmittedOf self.now sub.now writer from to o)) }
+    {
+        let mut clock = from;
+        while let Some(write) = self.first_between(writer, clock, to) {
+            add_outside(names, sub, &write.name)?;
+            clock = write.stamp.clock();
+        }
+        Ok(())
+    }
+
+    // The node's first known write above one clock, if it is not above another.
+    fn first_between(&self, writer: u32, from: u64, to: u64) -> Option<WriteRec>
+        requires { writer < 32 }
+        ensures some { IfSome result (λ w. (w.stamp.clock ≤ to) × IsFirstAbove self.now writer from (Some w)) }
+        ensures none { IfNone result ((x : WriteRec) → Has self.now x → x.stamp.node ≡ writer → from < x.stamp.clock → to < x.stamp.clock) }
+    {
+        match self.first_above(writer, from) {
+            Some(write) => up_to(write, to),
+            None => None,
+        }
+    }
+
+    // Each known write is kept under its stamp.
+    pub(crate) fn by_stamp(&self)
+        ensures { IsByStamp self.now }
+    {
+        let _ = &self.rows;
+    }
+
+    // The known write of the node with the least clock above this one.
+    pub(crate) fn first_above(&self, writer: u32, clock: u64) -> Option<WriteRec>
+        requires { writer < 32 }
+        ensures { IsFirstAbove self.now writer clock result }
+    {
+        self.rows[writer as usize].first_above(clock)
+    }
+}
+
+// The write, if its clock is not above this one.
+fn up_to(write: WriteRec, clock: u64) -> Option<WriteRec>
+    ensures some { IfSome result (λ w. (w ≡ write) × (w.stamp.clock ≤ clock)) }
+    ensures none { IfNone result (clock < write.stamp.clock) }
+{
+    if write.stamp.clock() <= clock {
+        Some(write)
+    } else {
+        None
+    }
+}
+
+// Adds the name, if it is none of these.
+fn add_outside(names: &mut Collector, sub: &NameSet, name: &Name) -> Result<(), NoMemory>
+    ensures { OnOk result ((o : List ℕ) → IsName o → is_in_any names.new o ≡ (is_in_any names.old o || (bytes_eq name.now o && not (has sub.now name.now)))) }
+{
+    if sub.has(name) {
+        return Ok(());
+    }
+    names.add_name(name)
+}
+
+fn rows(alloc: Global) -> Result<Vec<Writes>, NoMemory>
+    ensures len { IfOk result (λ rows. length rows.items ≡ 32) }
+    ensures none { IfOk result (λ rows. (n : ℕ) → slice_index_or rows.items n [] ≡ []) }
+{
+    let mut rows = Vec::with_capacity(alloc, NODES as usize)?;
+    for _ in 0..NODES {
+        rows.push(Writes::new(alloc))?;
+    }
+    Ok(rows)
+}
+
+fn forget(rows: &mut Vec<Writes>, cut: &Vector)
+    requires { length rows.old.items ≡ 32 }
+    ensures len { length rows.new.items ≡ 32 }
+    ensures each { (n : ℕ) → n < 32 → IsForgottenUpTo (clock_of cut.now n) (slice_index_or rows.old.items n []) (slice_index_or rows.new.items n []) }
+{
+    for n in 0..NODES {
+        let row = &mut rows[n as usize];
+        row.forget(cut.at(n));
+    }
+}

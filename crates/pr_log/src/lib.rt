@@ -1,0 +1,17 @@
+//! The causal log of a node: which names are dark at which points, and the writes that are known.
+#![tactic(auto)]
+
+mod collector;
+mod dark;
+pub mod index;
+mod log;
+mod segments;
+mod steps;
+#[cfg(test)]
+mod tests;
+mod waiting;
+mod writes;
+
+pub use index::Index;
+pub use log::Log;
+pub use steps::Steps;

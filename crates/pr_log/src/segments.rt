@@ -1,0 +1,258 @@
+// The dark names of one node's points.
+ghost use Rattle.pr_log.specs.Sets.{IsDarkAt, IsNarrowed, begins_at, is_in_any, is_lit_at, standing};
+ghost use Rattle.pr_names.specs.Name.{IsName};
+ghost use Rattle.pr_names.specs.Span.{Span};
+ghost use Rattle.pr_sets.specs.Spans.{has};
+ghost use Rattle.std.specs.BTreeMap.Range.{IsLeBy};
+ghost use Rattle.std.specs.Option.{option_copied};
+ghost use Rattle.std.specs.Ordering.{is_lt, nat_cmp};
+ghost use Rattle.std.specs.Prelude.{◌≡◌, ◌≤◌, ◌<◌, ◌-◌, ◌⊎◌, ◌↔◌, ◌||◌, ℕ, List, [], not, IfNone, IfOk, IfSome, IsSome, IsTrue, OnOk, None, Some, false};
+
+use crate::collector::{Collector, every_name};
+use pr_sets::NameSet;
+use pr_stamps::NoMemory;
+use std::alloc::Global;
+use std::collections::BTreeMap;
+use std::marker::Model;
+use std::ops::Bound;
+
+type Map = BTreeMap<u64, NameSet>;
+
+// The dark sets by the clocks at which they begin: each stands up to the clock before the next one. Where none has
+// begun, every name is dark. Sets that follow one another differ.
+#[derive(Drop)]
+pub struct Segments {
+    alloc: Global,
+    sets: Map,
+}
+
+impl Model for Segments {
+    ghost use Rattle.std.specs.Prelude.{List, ℕ};
+    ghost use Rattle.pr_names.specs.Span.{Span};
+
+    ghost Value = { List (ℕ × List Span) };
+
+    ghost view = { λ s. s.sets.entries };
+}
+
+impl Segments {
+    pub fn new(alloc: Global) -> Segments
+        ensures { result ≡ [] }
+    {
+        Segments {
+            alloc,
+            sets: BTreeMap::new(alloc),
+        }
+    }
+
+    // At the clocks from `lo` to `hi` the names that the target lacks are lit too. It takes time logarithmic in the
+    // sets, for each set that stands there.
+    pub fn refine(&mut self, lo: u64, hi: u64, target: &NameSet) -> Result<(), NoMemory>
+        requires some { 1 ≤ lo }
+        requires order { lo ≤ hi }
+        requires most { hi ≤ 4611686018427387903 }
+        ensures within { OnOk result ((o : List ℕ) (c : ℕ) → IsName o → lo ≤ c → c ≤ hi → is_lit_at self.new o c ≡ (is_lit_at self.old o c || not (has target.now o))) }
+        ensures others { OnOk result ((o : List ℕ) (c : ℕ) → IsName o → (c < lo) ⊎ (hi < c) → is_lit_at self.new o c ≡ is_lit_at self.old o c) }
+    {
+        split(&mut self.sets, self.alloc, lo)?;
+        split(&mut self.sets, self.alloc, hi + 1)?;
+        narrow(&mut self.sets, self.alloc, lo, hi, target)?;
+        join(&mut self.sets, lo, hi + 1);
+        Ok(())
+    }
+
+    // Forgets sets that stand at no clock above this one, each in logarithmic time.
+    pub fn forget(&mut self, clock: u64)
+        requires { clock ≤ 4611686018427387903 }
+        ensures { (o : List ℕ) (c : ℕ) → clock < c → is_lit_at self.new o c ≡ is_lit_at self.old o c }
+    {
+        if let Some(last) = last_up_to(&self.sets, clock + 1) {
+            drop_below(&mut self.sets, last);
+        }
+    }
+
+    // Adds the names that are dark at one of the clocks, in time logarithmic in the sets, for each set that stands
+    // there.
+    pub fn collect(&self, lo: u64, hi: u64, names: &mut Collector) -> Result<(), NoMemory>
+        requires order { lo ≤ hi }
+        requires most { hi ≤ 4611686018427387903 }
+        ensures { OnOk result ((o : List ℕ) → IsName o → IsTrue (is_in_any names.new o) ↔ (IsTrue (is_in_any names.old o) ⊎ IsDarkAt self.now lo hi o)) }
+    {
+        names.add(dark_at(&self.sets, self.alloc, lo)?)?;
+        let mut clock = lo;
+        while let Some((start, set)) = first_between(&self.sets, clock + 1, hi) {
+            names.add_copy(set)?;
+            clock = start;
+        }
+        Ok(())
+    }
+}
+
+// The names that are dark at the clock.
+fn dark_at(sets: &Map, alloc: Global, clock: u64) -> Result<NameSet, NoMemory>
+    ensures { IfOk result (λ set. (o : List ℕ) → IsName o → has set o ≡ not (is_lit_at sets.now.entries o clock)) }
+{
+    match set_at(sets, clock) {
+        Some(set) => set.copy(alloc),
+        None => every_name(alloc),
+    }
+}
+
+// A set begins at the clock, with nothing changed.
+fn split(sets: &mut Map, alloc: Global, clock: u64) -> Result<(), NoMemory>
+    ensures here { OnOk result (IsSome (begins_at sets.new.entries clock)) }
+    ensures others { OnOk result ((c : ℕ) → ¬ (c ≡ clock) → begins_at sets.new.entries c ≡ begins_at sets.old.entries c) }
+    ensures lit { OnOk result ((o : List ℕ) (c : ℕ) → IsName o → is_lit_at sets.new.entries o c ≡ is_lit_at sets.old.entries o c) }
+{
+    if sets.contains_key(&clock) {
+        return Ok(());
+    }
+    let set = dark_at(sets, alloc, clock)?;
+    sets.insert(clock, set)?;
+    Ok(())
+}
+
+// The sets that begin from `lo` to `hi` lose the names outside the target.
+fn narrow(sets: &mut Map, alloc: Global, lo: u64, hi: u64, target: &NameSet) -> Result<(), NoMemory>
+    requires order { lo ≤ hi }
+    requires most { hi ≤ 4611686018427387903 }
+    ensures within { OnOk result ((c : ℕ) → lo ≤ c → c ≤ hi → IsNarrowed target.now (begins_at sets.old.entries c) (begins_at sets.new.entries c)) }
+    ensures others { OnOk result ((c : ℕ) → (c < lo) ⊎ (hi < c) → begins_at sets.new.entries c ≡ begins_at sets.old.entries c) }
+{
+    let mut clock = lo;
+    while let Some((start, set)) = first_between(sets, clock, hi) {
+        let narrowed = set.intersect(alloc, target)?;
+        sets.insert(start, narrowed)?;
+        clock = start + 1;
+    }
+    Ok(())
+}
+
+// Takes out each set that begins from `lo` to `hi` and has the names of the one before it.
+fn join(sets: &mut Map, lo: u64, hi: u64)
+    requires some { 1 ≤ lo }
+    requires most { hi ≤ 4611686018427387904 }
+    ensures { (o : List ℕ) (c : ℕ) → IsName o → is_lit_at sets.new.entries o c ≡ is_lit_at sets.old.entries o c }
+{
+    let mut clock = lo;
+    while let Some((start, _)) = first_between(sets, clock, hi) {
+        join_at(sets, start);
+        clock = start + 1;
+    }
+}
+
+// Takes out the set that begins at the clock, if it has the names of the one before it.
+fn join_at(sets: &mut Map, clock: u64)
+    requires { 1 ≤ clock }
+    ensures { (o : List ℕ) (c : ℕ) → IsName o → is_lit_at sets.new.entries o c ≡ is_lit_at sets.old.entries o c }
+{
+    if repeats(sets, clock) {
+        sets.remove(&clock);
+    }
+}
+
+// Whether a set begins at the clock that has the names of the one before it.
+fn repeats(sets: &Map, clock: u64) -> bool
+    requires { 1 ≤ clock }
+    ensures { IsTrue result → (a : List Span) × (b : List Span) × (standing (begins_at sets.now.entries) (clock - 1) ≡ Some a) × (begins_at sets.now.entries clock ≡ Some b) × ((o : List ℕ) → IsName o → has a o ≡ has b o) }
+{
+    match (set_at(sets, clock - 1), sets.get(&clock)) {
+        (Some(before), Some(set)) => same_names(before, set),
+        _ => false,
+    }
+}
+
+fn same_names(a: &NameSet, b: &NameSet) -> bool
+    ensures { IsTrue result → (o : List ℕ) → IsName o → has a.now o ≡ has b.now o }
+{
+    a.count() == b.count() && a.within(b) && b.within(a)
+}
+
+fn drop_below(sets: &mut Map, clock: u64)
+    ensures { (c : ℕ) → clock ≤ c → begins_at sets.new.entries c ≡ begins_at sets.old.entries c }
+{
+    while let Some(first) = first_below(sets, clock) {
+        sets.remove(&first);
+    }
+}
+
+// The set that stands at the clock.
+fn set_at(sets: &Map, clock: u64) -> Option<&NameSet>
+    ensures { option_copied result ≡ standing (begins_at sets.now.entries) clock }
+{
+    match last_entry(sets, clock) {
+        Some(entry) => Some(entry.1),
+        None => None,
+    }
+}
+
+// The clock at which the set begins that stands at this one.
+fn last_up_to(sets: &Map, clock: u64) -> Option<u64>
+    ensures some { IfSome result (λ s. (s ≤ clock) × IsSome (begins_at sets.now.entries s)) }
+    ensures none { IfNone result ((s : ℕ) → s ≤ clock → begins_at sets.now.entries s ≡ None) }
+{
+    match last_entry(sets, clock) {
+        Some(entry) => Some(entry.0),
+        None => None,
+    }
+}
+
+// The last entry up to the clock.
+fn last_entry(sets: &Map, clock: u64) -> Option<(u64, &NameSet)>
+    ensures entry { IfSome result (λ e. begins_at sets.now.entries e.0 ≡ Some e.1.now) }
+    ensures within { IfSome result (λ e. e.0 ≤ clock) }
+    ensures last { IfSome result (λ e. (s : ℕ) → IsLeBy nat_cmp s clock → IsSome (begins_at sets.now.entries s) → is_lt (nat_cmp e.0 s) ≡ false) }
+    ensures none { IfNone result ((s : ℕ) → IsLeBy nat_cmp s clock → begins_at sets.now.entries s ≡ None) }
+{
+    match sets
+        .range((Bound::Unbounded, Bound::Included(clock)))
+        .next_back()
+    {
+        Some((start, set)) => Some((*start, set)),
+        None => None,
+    }
+}
+
+// The first entry from `lo` to `hi`.
+fn first_between(sets: &Map, lo: u64, hi: u64) -> Option<(u64, &NameSet)>
+    ensures entry { IfSome result (λ e. begins_at sets.now.entries e.0 ≡ Some e.1.now) }
+    ensures within { IfSome result (λ e. (lo ≤ e.0) × (e.0 ≤ hi)) }
+    ensures first { IfSome result (λ e. (s : ℕ) → lo ≤ s → s < e.0 → begins_at sets.now.entries s ≡ None) }
+    ensures none { IfNone result ((s : ℕ) → lo ≤ s → s ≤ hi → begins_at sets.now.entries s ≡ None) }
+{
+    let (start, set) = first_from(sets, lo)?;
+    if start <= hi {
+        Some((start, set))
+    } else {
+        None
+    }
+}
+
+// The first entry from the clock on.
+fn first_from(sets: &Map, clock: u64) -> Option<(u64, &NameSet)>
+    ensures entry { IfSome result (λ e. begins_at sets.now.entries e.0 ≡ Some e.1.now) }
+    ensures from { IfSome result (λ e. clock ≤ e.0) }
+    ensures first { IfSome result (λ e. (s : ℕ) → IsLeBy nat_cmp clock s → IsSome (begins_at sets.now.entries s) → IsLeBy nat_cmp e.0 s) }
+    ensures none { IfNone result ((s : ℕ) → IsLeBy nat_cmp clock s → begins_at sets.now.entries s ≡ None) }
+{
+    match sets
+        .range((Bound::Included(clock), Bound::Unbounded))
+        .next()
+    {
+        Some((start, set)) => Some((*start, set)),
+        None => None,
+    }
+}
+
+// The first clock below this one at which a set begins.
+fn first_below(sets: &Map, clock: u64) -> Option<u64>
+    ensures { IfSome result (λ s. (s < clock) × IsSome (begins_at sets.now.entries s)) }
+{
+    match sets
+        .range((Bound::Unbounded, Bound::Excluded(clock)))
+        .next()
+    {
+        Some((start, _)) => Some(*start),
+        None => None,
+    }
+}

@@ -1,0 +1,74 @@
+// The next write of a stream.
+ghost use Rattle.pr_inval.specs.declared.write_rec.WriteRec.{WriteRec};
+ghost use Rattle.pr_log.specs.Known.{IsFirstAbove, uncovered};
+ghost use Rattle.pr_log.specs.Waiting.{IsLeastHead, IsLesser, IsNextOf, head_of};
+ghost use Rattle.pr_vectors.specs.Vector.{clock_of};
+ghost use Rattle.std.specs.Prelude.{◌≡◌, ◌≤◌, ◌<◌, ◌+◌, ℕ};
+
+use crate::Steps;
+use crate::index::Index;
+use pr_inval::WriteRec;
+use pr_sets::NameSet;
+use pr_stamps::NODES;
+use pr_vectors::Vector;
+use std::sync::ledger::Ledger;
+
+// By node the first write that is not yet looked at.
+type Heads = [Option<WriteRec>; 32];
+
+// The least write by stamp that is to one of the names and past the position. The nodes' writes are looked at in the
+// order of stamps, so that a write is looked at only if it comes before the answer or is the first of its node.
+pub fn next_write<L: Ledger>(
+    index: &Index,
+    pos: &Vector,
+    sub: &NameSet,
+    steps: &mut Steps<L>,
+) -> Option<WriteRec>
+    ensures next { IsNextOf index.now pos.now sub.now result }
+    ensures few { steps.new ≤ steps.old + uncovered index.now pos.now + 32 }
+{
+    index.by_stamp();
+    let mut heads = heads(index, pos, steps);
+    while let Some(write) = least(&heads) {
+        if sub.has(&write.name) {
+            return Some(write);
+        }
+        let node = write.stamp.node();
+        heads[node as usize] = index.next(node, write.stamp.clock(), steps);
+    }
+    None
+}
+
+// The first writes past the position.
+fn heads<L: Ledger>(index: &Index, pos: &Vector, steps: &mut Steps<L>) -> Heads
+    ensures each { (n : ℕ) → n < 32 → IsFirstAbove index.now n (clock_of pos.now n) (head_of result n) }
+    ensures steps { steps.new ≡ steps.old + 32 }
+{
+    let mut heads = [None; 32];
+    for n in 0..NODES {
+        heads[n as usize] = index.next(n, pos.at(n), steps);
+    }
+    heads
+}
+
+// The least of the heads by stamp.
+fn least(heads: &Heads) -> Option<WriteRec>
+    ensures { IsLeastHead heads.now 32 result }
+{
+    let mut least = None;
+    for head in heads {
+        least = lesser(&least, head);
+    }
+    least
+}
+
+// The lesser of two writes by stamp.
+fn lesser(first: &Option<WriteRec>, second: &Option<WriteRec>) -> Option<WriteRec>
+    ensures { IsLesser first.now second.now result }
+{
+    match (first, second) {
+        (Some(a), Some(b)) => Some(if b.stamp.is_before(&a.stamp) { *b } else { *a }),
+        (Some(a), None) => Some(*a),
+        (None, _) => *second,
+    }
+}

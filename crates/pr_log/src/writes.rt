@@ -1,0 +1,102 @@
+// The known writes of one node.
+ghost use Rattle.pr_log.specs.Known.{IsAddedAt, IsFirstIn, IsForgottenUpTo, at_clock, count_above};
+ghost use Rattle.std.specs.BTreeMap.Range.{IsLeBy, IsLtBy};
+ghost use Rattle.std.specs.Ordering.{nat_cmp};
+ghost use Rattle.std.specs.Prelude.{◌≡◌, ◌≤◌, ◌<◌, ◌+◌, ℕ, [], IfNone, IfSome, IsSome, OnErr, OnOk, None};
+ghost use Rattle.pr_stamps.specs.Point.{IsStamp};
+
+use pr_inval::WriteRec;
+use pr_stamps::NoMemory;
+use std::alloc::Global;
+use std::collections::BTreeMap;
+use std::marker::Model;
+use std::ops::Bound;
+
+// Writes by their clocks.
+#[derive(Drop)]
+pub struct Writes {
+    by_clock: BTreeMap<u64, WriteRec>,
+}
+
+impl Model for Writes {
+    ghost use Rattle.std.specs.Prelude.{List, ℕ};
+    ghost use Rattle.pr_inval.specs.declared.write_rec.WriteRec.{WriteRec};
+
+    ghost Value = { List (ℕ × WriteRec) };
+
+    ghost view = { λ w. w.by_clock.entries };
+}
+
+impl Writes {
+    pub fn new(alloc: Global) -> Writes
+        ensures { result ≡ [] }
+    {
+        Writes {
+            by_clock: BTreeMap::new(alloc),
+        }
+    }
+
+    // Keeps the write, if none has its clock. It takes logarithmic time.
+    pub fn add(&mut self, write: &WriteRec) -> Result<(), NoMemory>
+        ensures ok { OnOk result (IsAddedAt self.old self.new write.now) }
+        ensures few { OnOk result ((c : ℕ) → count_above self.new c ≤ count_above self.old c + 1) }
+        ensures err { OnErr result (self.new ≡ self.old) }
+        ensures range { IsStamp write.now.stamp }
+    {
+        let clock = write.stamp.clock();
+        if self.by_clock.contains_key(&clock) {
+            return Ok(());
+        }
+        self.by_clock.insert(clock, *write)?;
+        Ok(())
+    }
+
+    // The first write above the clock, in logarithmic time.
+    pub fn first_above(&self, clock: u64) -> Option<WriteRec>
+        ensures { IsFirstIn self.now clock result }
+    {
+        match first_above(&self.by_clock, clock) {
+            Some((_, write)) => Some(*write),
+            None => None,
+        }
+    }
+
+    // Drops the writes up to the clock, each in logarithmic time.
+    pub fn forget(&mut self, clock: u64)
+        ensures { IsForgottenUpTo clock self.old self.new }
+    {
+        while let Some(first) = first_up_to(&self.by_clock, clock) {
+            self.by_clock.remove(&first);
+        }
+    }
+}
+
+// The first entry above the clock.
+fn first_above(writes: &BTreeMap<u64, WriteRec>, clock: u64) -> Option<(u64, &WriteRec)>
+    ensures entry { IfSome result (λ e. at_clock writes.now.entries e.0 ≡ Some e.1.now) }
+    ensures above { IfSome result (λ e. clock < e.0) }
+    ensures first { IfSome result (λ e. (d : ℕ) → IsLtBy nat_cmp clock d → IsSome (at_clock writes.now.entries d) → IsLeBy nat_cmp e.0 d) }
+    ensures none { IfNone result ((d : ℕ) → IsLtBy nat_cmp clock d → at_clock writes.now.entries d ≡ None) }
+{
+    match writes
+        .range((Bound::Excluded(clock), Bound::Unbounded))
+        .next()
+    {
+        Some((first, write)) => Some((*first, write)),
+        None => None,
+    }
+}
+
+// The first clock, if it is not above this one.
+fn first_up_to(writes: &BTreeMap<u64, WriteRec>, clock: u64) -> Option<u64>
+    ensures within { IfSome result (λ c. (c ≤ clock) × IsSome (at_clock writes.now.entries c)) }
+    ensures none { IfNone result ((c : ℕ) → IsLeBy nat_cmp c clock → at_clock writes.now.entries c ≡ None) }
+{
+    match writes
+        .range((Bound::Unbounded, Bound::Included(clock)))
+        .next()
+    {
+        Some((first, _)) => Some(*first),
+        None => None,
+    }
+}
