@@ -1,0 +1,11 @@
+pub mod Loops
+pub mod Above
+pub mod Fields
+pub mod NameFields
+pub mod StampFields
+pub mod VectorFields
+pub mod ListFields
+pub mod KindFields
+pub mod FrameLemmas
+pub mod FeedLemmas
+pub mod WriteLemmas

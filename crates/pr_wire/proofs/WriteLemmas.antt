@@ -1,0 +1,108 @@
+-- Turns of the loops that write.
+use Rattle.std.proofs.Common.{◌≡◌, ℕ, suc, ◌+◌, ◌-◌, ◌^◌, ◌<◌, ◌≤◌, take, drop, List, [], ◌∷◌, ◌++◌, length, refl, sym, ap, ◌∙◌, append_assoc, arith}
+use Rattle.std.specs.Prelude.{flat_map, ◌%◌}
+use Rattle.std.specs.Int.{byte_at}
+use Rattle.std.proofs.lemmas.List.{append-nil, drop-drop, length-append, length-drop, length-take, nil_from_length, take-append-drop, take-append-le, take_all}
+use Rattle.std.proofs.Math.Seq.{drop-length}
+use Rattle.pr_stamps.specs.Point.{Point}
+use Rattle.pr_vectors.specs.Vector.{clock_of}
+use Rattle.pr_inval.specs.declared.msg.Msg.{Msg}
+use Rattle.pr_wire.specs.declared.format.Format.TheVariants.{Two}
+use Rattle.pr_wire.specs.Spelling.{above, content, eight, entry_text, spelling}
+use Rattle.pr_wire.proofs.Above.{above_rise, above_same}
+
+rising : (v w : List ℕ) (n : ℕ) → n < 32 → clock_of v n < clock_of w n → above v w n (32 - n) ≡ record { clock = clock_of w n; node = n } ∷ above v w (n + 1) (32 - (n + 1))
+rising v w n lt rise = let k : 32 - n ≡ suc (32 - (n + 1)) = omega arith in rw k (above_rise v w n (32 - (n + 1)) rise)
+
+staying : (v w : List ℕ) (n : ℕ) → n < 32 → clock_of w n ≤ clock_of v n → above v w n (32 - n) ≡ above v w (n + 1) (32 - (n + 1))
+staying v w n lt le = let k : 32 - n ≡ suc (32 - (n + 1)) = omega arith in rw k (above_same v w n (32 - (n + 1)) le)
+
+ended : (v w : List ℕ) (n : ℕ) → 32 ≤ n → above v w n (32 - n) ≡ []
+unfolding above
+ended v w n le = let k : 32 - n ≡ 0 = omega arith in rw k refl
+
+pub count_rises : (v w : List ℕ) (n count all : ℕ) → n < 32 → clock_of v n < clock_of w n → count + length (above v w n (32 - n)) ≡ all → (count + 1) + length (above v w (n + 1) (32 - (n + 1))) ≡ all
+count_rises v w n count all lt rise so_far = omega (arith, ap length (rising v w n lt rise))
+
+pub count_stays : (v w : List ℕ) (n count all : ℕ) → n < 32 → clock_of w n ≤ clock_of v n → count + length (above v w n (32 - n)) ≡ all → count + length (above v w (n + 1) (32 - (n + 1))) ≡ all
+count_stays v w n count all lt le so_far = omega (arith, ap length (staying v w n lt le))
+
+pub count_ends : (v w : List ℕ) (n count all : ℕ) → 32 ≤ n → count + length (above v w n (32 - n)) ≡ all → count ≡ all
+count_ends v w n count all le so_far = omega (arith, ap length (ended v w n le))
+
+pub entry_rises : (v w : List ℕ) (n : ℕ) (old node new all : List ℕ) → n < 32 → clock_of v n < clock_of w n → node ≡ old ++ n ∷ [] → new ≡ node ++ eight (clock_of w n)
+    → old ++ flat_map entry_text (above v w n (32 - n)) ≡ all → new ++ flat_map entry_text (above v w (n + 1) (32 - (n + 1))) ≡ all
+unfolding entry_text
+entry_rises v w n old node new all lt rise is_node is_new so_far =
+    let later = flat_map entry_text (above v w (n + 1) (32 - (n + 1))) in
+    ap (λ (t : List ℕ). t ++ later) (is_new ∙ ap (λ (t : List ℕ). t ++ eight (clock_of w n)) is_node ∙ append_assoc old (n ∷ []) (eight (clock_of w n)))
+    ∙ append_assoc old (n ∷ eight (clock_of w n)) later
+    ∙ ap (λ (ps : List Point). old ++ flat_map entry_text ps) (sym (rising v w n lt rise))
+    ∙ so_far
+
+pub entry_stays : (v w : List ℕ) (n : ℕ) (old all : List ℕ) → n < 32 → clock_of w n ≤ clock_of v n
+    → old ++ flat_map entry_text (above v w n (32 - n)) ≡ all → old ++ flat_map entry_text (above v w (n + 1) (32 - (n + 1))) ≡ all
+entry_stays v w n old all lt le so_far = ap (λ (ps : List Point). old ++ flat_map entry_text ps) (sym (staying v w n lt le)) ∙ so_far
+
+pub entries_end : (v w : List ℕ) (n : ℕ) (old all : List ℕ) → 32 ≤ n → old ++ flat_map entry_text (above v w n (32 - n)) ≡ all → old ≡ all
+entries_end v w n old all le so_far = sym (append-nil old) ∙ ap (λ (ps : List Point). old ++ flat_map entry_text ps) (sym (ended v w n le)) ∙ so_far
+
+-- a number and its rest by 2^64 have the same 8 bytes
+pub eight_mod : (n : ℕ) → eight (n % 2 ^ 64) ≡ eight n
+unfolding eight
+eight_mod n =
+    let a : byte_at 7 (n % 2 ^ 64) ≡ byte_at 7 n = omega arith in
+    let b : byte_at 6 (n % 2 ^ 64) ≡ byte_at 6 n = omega arith in
+    let c : byte_at 5 (n % 2 ^ 64) ≡ byte_at 5 n = omega arith in
+    let d : byte_at 4 (n % 2 ^ 64) ≡ byte_at 4 n = omega arith in
+    let e : byte_at 3 (n % 2 ^ 64) ≡ byte_at 3 n = omega arith in
+    let f : byte_at 2 (n % 2 ^ 64) ≡ byte_at 2 n = omega arith in
+    let g : byte_at 1 (n % 2 ^ 64) ≡ byte_at 1 n = omega arith in
+    let h : byte_at 0 (n % 2 ^ 64) ≡ byte_at 0 n = omega arith in
+    rw (a, b, c, d, e, f, g, h) refl
+
+pub frame_begins : (m : Msg) (len : ℕ) (head : List ℕ) → len ≡ length (content Two m) % 2 ^ 64 → head ≡ 2 ∷ [] ++ eight len → head ++ content Two m ≡ spelling Two m
+unfolding spelling
+frame_begins m len head is_len is_head =
+    ap (λ (t : List ℕ). t ++ content Two m) (is_head ∙ ap (λ (t : List ℕ). 2 ∷ t) (ap eight is_len ∙ eight_mod (length (content Two m))))
+
+-- a part of a chunk is given
+pub part_given : (filled n at : ℕ) (old new chunk left all : List ℕ) → take (filled + n) new ≡ take filled old ++ take n (drop at chunk)
+    → take filled old ++ (drop at chunk ++ left) ≡ all → take (filled + n) new ++ (drop (at + n) chunk ++ left) ≡ all
+part_given filled n at old new chunk left all given so_far =
+    let front = take filled old in
+    let part = take n (drop at chunk) in
+    ap (λ (t : List ℕ). t ++ (drop (at + n) chunk ++ left)) given
+    ∙ append_assoc front part (drop (at + n) chunk ++ left)
+    ∙ ap (λ (t : List ℕ). front ++ t) (
+    sym (append_assoc part (drop (at + n) chunk) left)
+    ∙ ap (λ (t : List ℕ). (part ++ t) ++ left) (sym (drop-drop n at chunk))
+    ∙ ap (λ (t : List ℕ). t ++ left) (take-append-drop n (drop at chunk)))
+    ∙ so_far
+
+-- the slice from a place on
+pub slice_from : (at : ℕ) (xs : List ℕ) → take (length xs - at) (drop at xs) ≡ drop at xs
+slice_from at xs = take_all (length xs - at) (drop at xs) (omega (arith, length-drop at xs))
+
+-- a chunk is appended
+pub chunk_added : (at len : ℕ) (old new items chunk left all : List ℕ) → items ≡ chunk → len ≡ length chunk → new ≡ old ++ take (length items - at) (drop at items) → old ++ (drop at chunk ++ left) ≡ all → new ++ (drop len chunk ++ left) ≡ all
+chunk_added at len old new items chunk left all same is_len added so_far =
+    let given : new ≡ old ++ drop at chunk = added ∙ ap (λ (t : List ℕ). old ++ t) (slice_from at items ∙ ap (λ (t : List ℕ). drop at t) same) in
+    let none : drop len chunk ≡ [] = ap (λ (k : ℕ). drop k chunk) is_len ∙ drop-length chunk in
+    ap (λ (t : List ℕ). t ++ (drop len chunk ++ left)) given
+    ∙ append_assoc old (drop at chunk) (drop len chunk ++ left)
+    ∙ ap (λ (t : List ℕ). old ++ (drop at chunk ++ (t ++ left))) none
+    ∙ so_far
+
+pub shorter : (at len : ℕ) (chunk left rest : List ℕ) → rest ≡ drop at chunk ++ left → at < length chunk → len ≡ length chunk → length (drop len chunk ++ left) < length rest
+shorter at len chunk left rest is lt is_len =
+    omega (arith, ap length is, length-append (drop at chunk) left, length-append (drop len chunk) left, length-drop at chunk, length-drop len chunk)
+
+-- the front stays
+pub kept_more : (old out more new : List ℕ) → take (length old) out ≡ old → new ≡ out ++ more → take (length old) new ≡ old
+kept_more old out more new kept is =
+    let long : length old ≤ length out = omega (arith, ap length kept, length-take (length old) out) in
+    ap (λ (t : List ℕ). take (length old) t) is ∙ take-append-le (length old) out more long ∙ kept
+
+pub all_added : (new rest all : List ℕ) → length rest ≡ 0 → new ++ rest ≡ all → new ≡ all
+all_added new rest all none so_far = sym (append-nil new) ∙ ap (λ (t : List ℕ). new ++ t) (sym (nil_from_length rest none)) ∙ so_far

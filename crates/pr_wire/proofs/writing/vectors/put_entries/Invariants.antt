@@ -1,0 +1,10 @@
+use Rattle.std.proofs.Common.{◌≡◌, ◌+◌, ◌-◌, ◌*◌, ◌≤◌, ◌++◌, length}
+use Rattle.std.specs.Prelude.{flat_map}
+use Rattle.pr_wire.specs.Spelling.{above, entry_text}
+use Rattle.pr_wire.proofs.writing.vectors.put_entries.Given as goal
+
+abbrev pub invariant-loop-n : goal.invariant-loop-n
+invariant-loop-n l = record {
+  all : l.chunk.items ++ flat_map entry_text (above l.from l.to l.n (32 - l.n)) ≡ l.fn.chunk.items ++ flat_map entry_text (above l.from l.to 0 32);
+  size : length l.chunk.items ≤ length l.fn.chunk.items + 9 * l.n;
+}

@@ -1,0 +1,99 @@
+// A stream of frames, as it comes.
+ghost use Rattle.pr_wire.specs.Feeding.{HasAnswered, new_feed, pushed};
+ghost use Rattle.std.specs.Prelude.{◌≡◌, ◌≤◌, ◌<◌, ◌^◌, length, drop, IfOk, OnErr, OnOk};
+
+use crate::frame::{Frame, read_frame};
+use crate::next::Next;
+use pr_stamps::NoMemory;
+use std::alloc::Global;
+use std::marker::Model;
+
+/// A stream of frames that comes in pieces (docs/WIRE.md). It stands for its rest, the bytes that were pushed and
+/// not yet given, and for the number of bytes given. Memory is taken for bytes that have come, and never for a
+/// length or a count that they give.
+#[derive(Drop)]
+pub struct Feed {
+    alloc: Global,
+    limit: u64,
+    bytes: Vec<u8>,
+    start: usize,
+    given: u64,
+}
+
+impl Model for Feed {
+    ghost use Rattle.std.specs.Prelude.{◌≤◌, length, drop};
+    ghost use Rattle.pr_wire.specs.Feeding.{Fed};
+
+    ghost Value = { Fed };
+
+    ghost view = { λ f. record { limit = f.limit; rest = drop f.start f.bytes.items; given = f.given } };
+
+    ghost invariant = { λ f. f.start ≤ length f.bytes.items };
+}
+
+impl Feed {
+    /// A feed of frames whose contents have at most so many bytes. It takes no memory.
+    pub fn new(alloc: Global, limit: u64) -> Feed
+        ensures { result ≡ new_feed limit }
+    {
+        Feed {
+            alloc,
+            limit,
+            bytes: Vec::new(alloc),
+            start: 0,
+            given: 0,
+        }
+    }
+
+    /// Adds a piece at the end of the rest, in amortised time linear in the piece. A refusal leaves the feed.
+    pub fn push(&mut self, piece: &[u8]) -> Result<(), NoMemory>
+        ensures ok { OnOk result (self.new ≡ pushed self.old piece.now) }
+        ensures err { OnErr result (self.new ≡ self.old) }
+    {
+        self.settle();
+        match self.bytes.extend_from_slice(piece) {
+            Ok(()) => Ok(()),
+            Err(_) => Err(NoMemory),
+        }
+    }
+
+    /// The next message, taken off the rest, in time linear in its frame; or why there is none, in constant time
+    /// where the frame is not in. A refusal leaves the feed, and so do More and Bad: after Bad each call answers it.
+    pub fn next(&mut self) -> Result<Next, NoMemory>
+        ensures answer { IfOk result (HasAnswered self.old self.new) }
+        ensures err { OnErr result (self.new ≡ self.old) }
+        ensures fits { length self.old.rest < 2 ^ 64 }
+    {
+        let _held = self.bytes.len();
+        match read_frame(self.alloc, self.limit, &self.bytes[self.start..])? {
+            Frame::Partial => Ok(Next::More),
+            Frame::Bad => Ok(Next::Bad { at: self.given }),
+            Frame::Message { msg, len } => {
+                self.start += len;
+                self.given = self.given.saturating_add(len as u64);
+                Ok(Next::Message(msg))
+            }
+        }
+    }
+
+    // Forgets the bytes that were given, where they are at least as many as the others: so each byte given pays for
+    // at most one that is moved.
+    fn settle(&mut self)
+        ensures { self.new ≡ self.old }
+    {
+        if self.start >= self.bytes.len() - self.start {
+            drop_front(&mut self.bytes, self.start);
+            self.start = 0;
+        }
+    }
+}
+
+// Takes so many bytes off the front.
+fn drop_front(bytes: &mut Vec<u8>, count: usize)
+    requires { count ≤ length bytes.old.items }
+    ensures { bytes.new.items ≡ drop count bytes.old.items }
+{
+    let left = bytes.len() - count;
+    bytes.copy_within(count.., 0);
+    bytes.truncate(left);
+}

@@ -1,0 +1,112 @@
+// A message's frame, piece by piece.
+ghost use Rattle.pr_wire.specs.Messages.{IsInWidth, IsMessage};
+ghost use Rattle.pr_wire.specs.Pieces.{left_text, rest_of};
+ghost use Rattle.pr_wire.specs.Spelling.{content, eight, spelling};
+ghost use Rattle.pr_wire.specs.declared.format.Format.{Format};
+ghost use Rattle.std.specs.Prelude.{◌≡◌, ◌≤◌, ◌<◌, ◌+◌, ◌-◌, ◌%◌, ◌^◌, [], ◌∷◌, ◌++◌, length, min, take, drop, true, false, OnOk};
+
+use crate::width::known_width;
+use crate::writing::{Chunk, Left, put_byte, put_eight, step};
+use pr_inval::{Bytes, Msg};
+use pr_stamps::NoMemory;
+
+/// The frame of a message in format 2 (docs/WIRE.md), given piece by piece. Its rest is at first the whole frame. No
+/// call takes memory, and none makes more of the frame than a few fields.
+#[derive(Drop)]
+pub struct Pieces<'a> {
+    chunk: Chunk,
+    at: usize,
+    left: Left<'a>,
+}
+
+impl<'a> Pieces<'a> {
+    /// The pieces of a message, in time linear in its frame, of which the length stands before the content.
+    pub fn new(msg: &'a Msg) -> Pieces<'a>
+        requires { IsMessage msg.now }
+        ensures rest { rest_of result ≡ spelling Format.Two msg.now }
+        ensures width { IsInWidth msg.now }
+    {
+        known_width(msg);
+        let left = Left::Message(msg);
+        let mut chunk = Chunk::new();
+        put_head(&mut chunk, len_of(left));
+        Pieces { chunk, at: 0, left }
+    }
+
+    /// Gives the first bytes of the rest, as many as the buffer takes, and takes them off the rest. It gives 0 just
+    /// where the rest is empty. The time is linear in what it gives.
+    pub fn next(&mut self, buf: &mut [u8]) -> usize
+        requires { 0 < length buf.old }
+        ensures count { result ≡ min (length buf.old) (length (rest_of self.old)) }
+        ensures bytes { take result buf.new ≡ take result (rest_of self.old) }
+        ensures rest { rest_of self.new ≡ drop result (rest_of self.old) }
+    {
+        let mut filled = 0;
+        while filled < buf.len() && self.refill() {
+            let count = copy_front(buf, filled, &self.chunk.as_slice()[self.at..]);
+            self.at += count;
+            filled += count;
+        }
+        filled
+    }
+
+    /// Adds the whole rest at the end. After a refusal a beginning of it was added.
+    pub(crate) fn append_to(&mut self, out: &mut Bytes) -> Result<(), NoMemory>
+        ensures ok { OnOk result (out.new ≡ out.old ++ rest_of self.old) }
+        ensures kept { take (length out.old) out.new ≡ out.old }
+    {
+        while self.refill() {
+            out.extend(&self.chunk.as_slice()[self.at..])?;
+            self.at = self.chunk.len();
+        }
+        Ok(())
+    }
+
+    // Makes the next chunk where this one is given; whether there are bytes to give.
+    fn refill(&mut self) -> bool
+        ensures rest { rest_of self.new ≡ rest_of self.old }
+        ensures some { result ≡ true → self.new.at < length self.new.chunk.items }
+        ensures none { result ≡ false → length (rest_of self.old) ≡ 0 }
+    {
+        if self.at < self.chunk.len() {
+            return true;
+        }
+        self.left = step(self.left, &mut self.chunk);
+        self.at = 0;
+        !self.chunk.is_empty()
+    }
+}
+
+// The format, and the length of the content.
+fn put_head(chunk: &mut Chunk, len: u64)
+    requires { length chunk.old.items ≤ 0 }
+    ensures { chunk.new.items ≡ chunk.old.items ++ 2 ∷ [] ++ eight len }
+{
+    put_byte(chunk, 2);
+    put_eight(chunk, len);
+}
+
+// How many bytes are left, as 8 bytes hold it.
+fn len_of(left: Left) -> u64
+    ensures { result ≡ length (left_text left.entry) % 2 ^ 64 }
+{
+    let mut chunk = Chunk::new();
+    let mut rest = step(left, &mut chunk);
+    let mut len = chunk.len() as u64;
+    while !chunk.is_empty() {
+        rest = step(rest, &mut chunk);
+        len = len.wrapping_add(chunk.len() as u64);
+    }
+    len
+}
+
+// Copies the first bytes into the buffer, behind those that are filled, as many as it takes.
+fn copy_front(buf: &mut [u8], filled: usize, bytes: &[u8]) -> usize
+    requires { filled ≤ length buf.old }
+    ensures count { result ≡ min (length buf.old - filled) (length bytes.now) }
+    ensures bytes { take (filled + result) buf.new ≡ take filled buf.old ++ take result bytes.now }
+{
+    let count = bytes.len().min(buf.len() - filled);
+    buf[filled..filled + count].copy_from_slice(&bytes[..count]);
+    count
+}

@@ -1,0 +1,94 @@
+// Vectors, and what one has above another.
+ghost use Rattle.pr_wire.specs.Reading.{Gives, end_at, entries_at, entry_at, rise_at, vector_at, vector_le};
+ghost use Rattle.pr_vectors.specs.Vector.{clock_of};
+ghost use Rattle.std.specs.Prelude.{◌≡◌, ◌&&◌, nat_le, nat_lt, List};
+
+use crate::fault::Fault;
+use crate::format::Format;
+use crate::reading::Cursor;
+use crate::reading::stamps::stamp_of;
+use pr_stamps::Stamp;
+use pr_vectors::Vector;
+
+// Whether no clock of the first vector is above the other's.
+pub fn is_le(vector: &Vector, other: &Vector) -> bool
+    ensures { result ≡ vector_le vector.now other.now }
+{
+    vector.le(other)
+}
+
+// Whether the node is this one or a later one, and the clock above the vector's.
+fn is_entry(next: u32, from: &Vector, stamp: &Stamp) -> bool
+    ensures { result ≡ (nat_le next stamp.now.node && nat_lt (clock_of from.now stamp.now.node) stamp.now.clock) }
+{
+    next <= stamp.node() && from.at(stamp.node()) < stamp.clock()
+}
+
+impl<'a> Cursor<'a> {
+    // The clock of a node from this one on, above the vector's.
+    #[tactic(auto, unfolding(crate::specs::Reading::entry_at))]
+    fn entry(&mut self, next: u32, from: &Vector) -> Result<Stamp, Fault>
+        ensures { Gives (λ x. (x, self.new.rest.now)) result (entry_at next from.now self.old.rest.now) }
+    {
+        let node = self.byte()?;
+        let clock = self.eight()?;
+        match stamp_of(clock, node) {
+            Some(stamp) if is_entry(next, from, &stamp) => Ok(stamp),
+            _ => Err(Fault::Bad),
+        }
+    }
+
+    // So many entries, which raise the vector.
+    fn entries(&mut self, count: u8, from: &Vector) -> Result<Vector, Fault>
+        ensures { Gives (λ x. (x, self.new.rest.now)) result (entries_at count 0 from.now from.now self.old.rest.now) }
+    {
+        let mut to = *from;
+        let mut next = 0;
+        for _ in 0..count {
+            let stamp = self.entry(next, from)?;
+            to.raise(&stamp);
+            next = stamp.node() + 1;
+        }
+        Ok(to)
+    }
+
+    /// What a vector has above this one.
+    #[tactic(auto, unfolding(crate::specs::Reading::rise_at))]
+    pub fn rise(&mut self, from: &Vector) -> Result<Vector, Fault>
+        ensures { Gives (λ x. (x, self.new.rest.now)) result (rise_at from.now self.old.rest.now) }
+    {
+        let count = self.byte()?;
+        self.entries(count, from)
+    }
+
+    #[tactic(auto, unfolding(crate::specs::Reading::vector_at))]
+    pub fn vector(&mut self) -> Result<Vector, Fault>
+        ensures { Gives (λ x. (x, self.new.rest.now)) result (vector_at self.old.rest.now) }
+    {
+        self.rise(&Vector::zero())
+    }
+
+    /// The end of points that start at a vector.
+    #[tactic(auto, unfolding(crate::specs::Reading::end_at))]
+    pub fn end(&mut self, format: Format, from: &Vector) -> Result<Vector, Fault>
+        ensures { Gives (λ x. (x, self.new.rest.now)) result (end_at format from.now self.old.rest.now) }
+    {
+        match format {
+            Format::One => self.whole_end(from),
+            Format::Two => self.rise(from),
+        }
+    }
+
+    // The end as a whole vector.
+    #[tactic(auto, unfolding(crate::specs::Reading::end_at))]
+    fn whole_end(&mut self, from: &Vector) -> Result<Vector, Fault>
+        ensures { Gives (λ x. (x, self.new.rest.now)) result (end_at Format.One from.now self.old.rest.now) }
+    {
+        let to = self.vector()?;
+        if is_le(from, &to) {
+            Ok(to)
+        } else {
+            Err(Fault::Bad)
+        }
+    }
+}

@@ -1,0 +1,9 @@
+// Writing a message in format 2, in chunks of a few fields.
+mod chunk;
+mod fields;
+mod left;
+mod open;
+mod vectors;
+
+pub use chunk::{Chunk, put_byte, put_eight};
+pub use left::{Left, step};

@@ -1,0 +1,78 @@
+// The first fields of a message's content.
+ghost use Rattle.pr_wire.specs.Pieces.{left_text};
+ghost use Rattle.pr_wire.specs.Spelling.{content, kind_byte, kind_text};
+ghost use Rattle.pr_wire.specs.declared.format.Format.{Format};
+ghost use Rattle.std.specs.Prelude.{◌≡◌, ◌≤◌, ◌+◌, ◌++◌, length};
+
+use crate::writing::chunk::{Chunk, put_byte, put_eight, put_four};
+use crate::writing::fields::{put_name, put_stamp, put_write};
+use crate::writing::left::Left;
+use crate::writing::vectors::{put_rise, put_vector};
+use pr_inval::{Kind, Msg};
+
+fn kind_byte(kind: &Kind) -> u8
+    ensures { result ≡ kind_byte kind.now }
+{
+    match kind {
+        Kind::Precise { .. } => 1,
+        Kind::Imprecise { .. } => 2,
+        Kind::Checkpoint { .. } => 3,
+        Kind::Body { .. } => 4,
+    }
+}
+
+/// Writes the fields up to the first list, or to the end, and says what is left.
+#[tactic(auto, unfolding(crate::specs::Spelling::content))]
+pub fn open<'a>(msg: &'a Msg, chunk: &mut Chunk) -> Left<'a>
+    requires { length chunk.old.items ≤ 0 }
+    ensures text { chunk.old.items ++ content Format.Two msg.now ≡ chunk.new.items ++ left_text result }
+    ensures some { 1 ≤ length chunk.new.items }
+{
+    put_byte(chunk, kind_byte(&msg.kind));
+    put_eight(chunk, msg.time);
+    put_four(chunk, msg.stream);
+    put_eight(chunk, msg.number);
+    open_kind(&msg.kind, chunk)
+}
+
+#[tactic(auto, unfolding(crate::specs::Spelling::kind_text, crate::specs::Spelling::end_text, crate::specs::Spelling::list_text))]
+fn open_kind<'a>(kind: &'a Kind, chunk: &mut Chunk) -> Left<'a>
+    requires { length chunk.old.items ≤ 21 }
+    ensures text { chunk.old.items ++ kind_text Format.Two kind.now ≡ chunk.new.items ++ left_text result }
+    ensures some { length chunk.old.items ≤ length chunk.new.items }
+{
+    match kind {
+        Kind::Precise { from, to, write } => {
+            put_vector(chunk, from);
+            put_rise(chunk, from, to);
+            put_write(chunk, write);
+            Left::Nothing
+        }
+        Kind::Imprecise { from, to, target } => {
+            put_vector(chunk, from);
+            put_rise(chunk, from, to);
+            put_eight(chunk, target.count() as u64);
+            Left::Target(target.parts())
+        }
+        Kind::Checkpoint {
+            to,
+            target,
+            floor,
+            rows,
+        } => {
+            put_vector(chunk, to);
+            put_eight(chunk, target.count() as u64);
+            Left::Checkpoint {
+                target: target.parts(),
+                floor,
+                rows: rows.as_slice(),
+            }
+        }
+        Kind::Body { name, stamp, bytes } => {
+            put_name(chunk, name);
+            put_stamp(chunk, stamp);
+            put_eight(chunk, bytes.len() as u64);
+            Left::Bytes(bytes.as_slice())
+        }
+    }
+}

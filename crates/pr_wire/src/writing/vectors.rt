@@ -1,0 +1,55 @@
+// Vectors, and what one has above another.
+ghost use Rattle.pr_wire.specs.Spelling.{above, entry_text, rise_text, vector_text};
+ghost use Rattle.std.specs.Prelude.{◌≡◌, ◌≤◌, ◌+◌, ◌++◌, length, flat_map};
+
+use crate::writing::chunk::{Chunk, put_byte, put_eight};
+use pr_stamps::NODES;
+use pr_vectors::Vector;
+
+// At how many nodes the second vector is above the first.
+fn count_above(from: &Vector, to: &Vector) -> u8
+    ensures count { result ≡ length (above from.now to.now 0 32) }
+    ensures most { result ≤ 32 }
+{
+    let mut count = 0;
+    for n in 0..NODES {
+        if from.at(n) < to.at(n) {
+            count += 1;
+        }
+    }
+    count
+}
+
+// The entries of the nodes at which the second vector is above the first.
+fn put_entries(chunk: &mut Chunk, from: &Vector, to: &Vector)
+    requires { length chunk.old.items + 288 ≤ 704 }
+    ensures text { chunk.new.items ≡ chunk.old.items ++ flat_map entry_text (above from.now to.now 0 32) }
+    ensures size { length chunk.new.items ≤ length chunk.old.items + 288 }
+{
+    for n in 0..NODES {
+        if from.at(n) < to.at(n) {
+            put_byte(chunk, n as u8);
+            put_eight(chunk, to.at(n));
+        }
+    }
+}
+
+/// What the second vector has above the first.
+#[tactic(auto, unfolding(crate::specs::Spelling::rise_text))]
+pub fn put_rise(chunk: &mut Chunk, from: &Vector, to: &Vector)
+    requires { length chunk.old.items + 289 ≤ 704 }
+    ensures text { chunk.new.items ≡ chunk.old.items ++ rise_text from.now to.now }
+    ensures size { length chunk.new.items ≤ length chunk.old.items + 289 }
+{
+    put_byte(chunk, count_above(from, to));
+    put_entries(chunk, from, to);
+}
+
+#[tactic(auto, unfolding(crate::specs::Spelling::vector_text))]
+pub fn put_vector(chunk: &mut Chunk, vector: &Vector)
+    requires { length chunk.old.items + 289 ≤ 704 }
+    ensures text { chunk.new.items ≡ chunk.old.items ++ vector_text vector.now }
+    ensures size { length chunk.new.items ≤ length chunk.old.items + 289 }
+{
+    put_rise(chunk, &Vector::zero(), vector);
+}
