@@ -1,0 +1,10 @@
+//! Checkpoints: what a gap list and a table of marks know, as one message, and that message taken into others.
+#![tactic(auto)]
+
+mod applying;
+mod building;
+#[cfg(test)]
+mod tests;
+
+pub use applying::apply;
+pub use building::build;
