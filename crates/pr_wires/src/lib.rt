@@ -1,0 +1,19 @@
+//! Connections between nodes: wires, and what makes them.
+#![tactic(auto)]
+
+mod tape_wire;
+mod tape_wires;
+#[cfg(test)]
+mod tests;
+mod true_wire;
+mod true_wires;
+mod wire;
+mod wires;
+
+pub use pr_ports::Failed;
+pub use tape_wire::TapeWire;
+pub use tape_wires::TapeWires;
+pub use true_wire::TrueWire;
+pub use true_wires::TrueWires;
+pub use wire::{UNDER, Wire};
+pub use wires::Wires;

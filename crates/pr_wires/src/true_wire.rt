@@ -1,0 +1,77 @@
+// A wire in memory that never fails.
+ghost use Rattle.std.specs.Prelude.{◌≡◌, ◌≤◌, [], drop, length, None, Some, true};
+
+use crate::Wire;
+use arrayvec::ArrayVec;
+use pr_ports::Failed;
+use std::marker::Model;
+
+/// Gives the bytes that were put, in order. It never fails and never ends, and takes no memory.
+#[derive(Drop)]
+pub struct TrueWire {
+    bytes: ArrayVec<u8, 4096>,
+    at: usize,
+}
+
+impl Model for TrueWire {
+    ghost use Rattle.std.specs.Prelude.{◌≤◌, List, ℕ, drop, length};
+
+    ghost Value = { List ℕ };
+
+    ghost view = { λ w. drop w.at w.bytes.items };
+
+    ghost invariant = { λ w. w.at ≤ length w.bytes.items };
+}
+
+impl TrueWire {
+    pub(crate) fn new() -> TrueWire
+        ensures { result ≡ [] }
+    {
+        TrueWire {
+            bytes: ArrayVec::new(),
+            at: 0,
+        }
+    }
+}
+
+impl Wire for TrueWire {
+    ghost faults = { λ w. 0 };
+
+    ghost ends = { λ w. 0 };
+
+    ghost under = { λ w. length w };
+
+    ghost given = { λ w. None };
+
+    ghost taken = { λ w. None };
+
+    ghost held = { λ w. Some w };
+
+    ghost is_sound = { λ w. true };
+
+    fn put(&mut self, piece: &[u8]) -> Result<usize, Failed> {
+        if self.at > 0 {
+            self.bytes = behind(&self.bytes, self.at);
+            self.at = 0;
+        }
+        let _ = self.bytes.try_extend_from_slice(piece);
+        Ok(piece.len())
+    }
+
+    fn take(&mut self, buf: &mut [u8]) -> Result<usize, Failed> {
+        let len = buf.len();
+        buf.copy_from_slice(&self.bytes.as_slice()[self.at..self.at + len]);
+        self.at += len;
+        Ok(len)
+    }
+}
+
+// The bytes from a place on.
+fn behind(bytes: &ArrayVec<u8, 4096>, at: usize) -> ArrayVec<u8, 4096>
+    requires { at ≤ length bytes.now.items }
+    ensures { result.items ≡ drop at bytes.now.items }
+{
+    let mut rest = ArrayVec::new();
+    let _ = rest.try_extend_from_slice(&bytes.as_slice()[at..]);
+    rest
+}
