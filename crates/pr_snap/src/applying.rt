@@ -1,6 +1,6 @@
 // A checkpoint taken.
 ghost use Rattle.pr_snap.specs.Apply.{AreMarked, AreRowsTaken, IsApplied, IsRowTaken};
-ghost use Rattle.std.specs.Prelude.{◌≡◌, true, false, IsErr, OnOk};
+ghost use Rattle.std.specs.Prelude.{◌≡◌, ◌⊎◌, true, false, IsErr, OnErr, OnOk};
 
 use pr_gaps::Gaps;
 use pr_inval::Row;
@@ -25,6 +25,7 @@ pub fn apply(
     ensures ok { OnOk result (IsApplied gaps.old gaps.new marks.old marks.new to.now target.now floor.now rows.now) }
     ensures gaps_work { OnOk result (gaps.new.spent ≡ false) }
     ensures marks_work { OnOk result (marks.old.spent ≡ false → marks.new.spent ≡ false) }
+    ensures err { OnErr result ((gaps.new.spent ≡ true) ⊎ (marks.new.spent ≡ true)) }
     ensures spent { gaps.old.spent ≡ true → IsErr result }
 {
     let from = Vector::zero();
@@ -37,6 +38,7 @@ pub fn apply(
 fn add_rows(marks: &mut Marks, rows: &[Row]) -> Result<(), NoMemory>
     ensures taken { OnOk result (AreRowsTaken marks.old marks.new rows.now) }
     ensures works { OnOk result (marks.old.spent ≡ false → marks.new.spent ≡ false) }
+    ensures err { OnErr result (marks.new.spent ≡ true) }
 {
     for row in rows {
         add_row(marks, row)?;
@@ -47,6 +49,7 @@ fn add_rows(marks: &mut Marks, rows: &[Row]) -> Result<(), NoMemory>
 fn add_row(marks: &mut Marks, row: &Row) -> Result<(), NoMemory>
     ensures taken { OnOk result (IsRowTaken marks.old marks.new row.now) }
     ensures works { OnOk result (marks.new.spent ≡ false) }
+    ensures err { OnErr result (marks.new.spent ≡ true) }
 {
     let newest = Newest {
         stamp: row.newest,
@@ -59,6 +62,7 @@ fn add_row(marks: &mut Marks, row: &Row) -> Result<(), NoMemory>
 fn add_marks(marks: &mut Marks, name: &Name, added: &[Mark]) -> Result<(), NoMemory>
     ensures marked { OnOk result (AreMarked marks.old marks.new name.now added.now) }
     ensures works { OnOk result (marks.old.spent ≡ false → marks.new.spent ≡ false) }
+    ensures err { OnErr result (marks.new.spent ≡ true) }
 {
     for mark in added {
         marks.add(name, mark, false)?;
