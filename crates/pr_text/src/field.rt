@@ -1,10 +1,8 @@
 // Fields that lines have in common.
-ghost use Rattle.pr_text.specs.Labels.{labels_of};
 ghost use Rattle.pr_text.specs.Lines.{span_fields, stamp_fields};
 ghost use Rattle.pr_text.specs.Texts.{more, stamp_text, vector_text};
-ghost use Rattle.pr_text.specs.declared.kind.Kind.TheVariants as kinds;
 ghost use Rattle.pr_sets.specs.Text.{set_text};
-ghost use Rattle.std.specs.Prelude.{◌≡◌, ◌≤◌, ◌++◌, ◌∷◌, [], OnOk, length};
+ghost use Rattle.std.specs.Prelude.{◌≡◌, ◌++◌, ◌∷◌, [], OnOk};
 
 use crate::stamp::{push_prev, push_stamp};
 use crate::vector::push_vector;

@@ -6,6 +6,20 @@ use crate::kind::Kind;
 use pr_script::{Bytes, Decl};
 use pr_stamps::NoMemory;
 
+/// Adds the first word and a label.
+pub fn push_about(
+    word: &[u8],
+    decls: &[Decl],
+    kind: Kind,
+    number: u32,
+    text: &mut Bytes,
+) -> Result<(), NoMemory>
+    ensures { OnOk result (text.new ≡ text.old ++ (word.now ++ 32 ∷ label kind decls.now number)) }
+{
+    text.extend(word)?;
+    push_label(decls, kind, number, text)
+}
+
 /// Adds a space and the label of this number, in time linear in the declarations.
 pub fn push_label(decls: &[Decl], kind: Kind, number: u32, text: &mut Bytes) -> Result<(), NoMemory>
     ensures { OnOk result (text.new ≡ text.old ++ 32 ∷ label kind decls.now number) }

@@ -2,6 +2,7 @@
 #![tactic(auto)]
 
 mod answer;
+mod client;
 mod event;
 mod field;
 mod head;
@@ -9,9 +10,11 @@ mod kind;
 mod label;
 mod law;
 mod message;
+mod node;
 mod quoted;
 mod rows;
 mod stamp;
+mod stream;
 #[cfg(test)]
 mod tests;
 mod vector;

@@ -1,11 +1,9 @@
 // The fields of a message.
-ghost use Rattle.pr_text.specs.Labels.{labels_of};
 ghost use Rattle.pr_text.specs.Lines.{kind_fields};
 ghost use Rattle.pr_text.specs.Texts.{more};
-ghost use Rattle.pr_text.specs.declared.kind.Kind.TheVariants as kinds;
 ghost use Rattle.pr_inval.specs.Points.{from_of};
 ghost use Rattle.pr_inval.specs.declared.kind.Kind.TheVariants as messages;
-ghost use Rattle.std.specs.Prelude.{◌≡◌, ◌≤◌, ◌++◌, OnOk, codes, cond, length};
+ghost use Rattle.std.specs.Prelude.{◌≡◌, ◌++◌, OnOk, codes, cond};
 
 use crate::field::{
     push_at, push_name, push_over, push_set, push_span, push_stamp_field, push_word,

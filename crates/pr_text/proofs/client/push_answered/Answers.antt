@@ -4,7 +4,7 @@ use Rattle.std.proofs.lemmas.List.{append-nil}
 use Rattle.pr_text.specs.Texts.{more, vector_text}
 use Rattle.pr_text.specs.Lines.{reply_fields}
 use Rattle.pr_text.proofs.Loops.{more_append, on_front}
-use Rattle.pr_text.proofs.event.push_answered.Goals as goal
+use Rattle.pr_text.proofs.client.push_answered.Goals as goal
 
 pub returns : goal.returns
 returns c =

@@ -1,6 +1,6 @@
 use Rattle.std.proofs.Common.{◌≡◌, ◌++◌, drop, map}
 use Rattle.pr_text.specs.Texts.{more, vector_text}
-use Rattle.pr_text.proofs.event.push_vectors.Given as goal
+use Rattle.pr_text.proofs.node.push_vectors.Given as goal
 
 -- what is written, then what is still to be written, is all
 abbrev pub invariant-loop-vector : goal.invariant-loop-vector

@@ -1,0 +1,82 @@
+// The events of clients.
+ghost use Rattle.pr_text.specs.Lines.{sentence};
+ghost use Rattle.pr_story.specs.declared.event.Event.TheVariants as events;
+ghost use Rattle.std.specs.Prelude.{◌≡◌, ◌++◌, OnOk, codes, cond};
+
+use crate::answer::push_reply;
+use crate::field::{push_at, push_name, push_over};
+use crate::kind::Kind;
+use crate::label::{push_about, push_label};
+use crate::quoted::push_quoted;
+use pr_inval::WriteRec;
+use pr_names::Name;
+use pr_script::{Bytes, Decl};
+use pr_stamps::NoMemory;
+use pr_story::Reply;
+use pr_vectors::Vector;
+
+/// A client's write or delete was accepted.
+pub fn push_wrote(
+    decls: &[Decl],
+    client: u32,
+    write: &WriteRec,
+    body: &[u8],
+    after: &Vector,
+    text: &mut Bytes,
+) -> Result<(), NoMemory>
+    ensures { OnOk result (text.new ≡ text.old ++ sentence decls.now 0 (events.Wrote client write.now body.now after.now)) }
+{
+    push_about(write_word(write.gone), decls, Kind::Client, client, text)?;
+    push_name(&write.name, text)?;
+    if !write.gone {
+        push_quoted(body, text)?;
+    }
+    push_over(decls, write, text)?;
+    push_at(b"after", decls, after, text)
+}
+
+fn write_word(gone: bool) -> &'static [u8]
+    ensures { result.now ≡ cond gone (codes "delete") (codes "write") }
+{
+    if gone { b"delete" } else { b"write" }
+}
+
+/// A client's read was answered.
+pub fn push_answered(
+    decls: &[Decl],
+    client: u32,
+    name: &Name,
+    reply: &Reply,
+    at: &Vector,
+    text: &mut Bytes,
+) -> Result<(), NoMemory>
+    ensures { OnOk result (text.new ≡ text.old ++ sentence decls.now 0 (events.Answered client name.now reply.now at.now)) }
+{
+    push_about(b"read", decls, Kind::Client, client, text)?;
+    push_name(name, text)?;
+    push_reply(decls, reply, text)?;
+    push_at(b"at", decls, at, text)
+}
+
+/// The client has seen more than its node covers.
+pub fn push_behind(
+    decls: &[Decl],
+    client: u32,
+    needs: &Vector,
+    has: &Vector,
+    text: &mut Bytes,
+) -> Result<(), NoMemory>
+    ensures { OnOk result (text.new ≡ text.old ++ sentence decls.now 0 (events.Behind client needs.now has.now)) }
+{
+    push_about(b"behind", decls, Kind::Client, client, text)?;
+    push_at(b"needs", decls, needs, text)?;
+    push_at(b"has", decls, has, text)
+}
+
+/// The client came to the node.
+pub fn push_moved(decls: &[Decl], node: u32, client: u32, text: &mut Bytes) -> Result<(), NoMemory>
+    ensures { OnOk result (text.new ≡ text.old ++ sentence decls.now node (events.Moved client)) }
+{
+    push_about(b"move", decls, Kind::Client, client, text)?;
+    push_label(decls, Kind::Node, node, text)
+}

@@ -1,0 +1,82 @@
+// The events of a node.
+ghost use Rattle.pr_text.specs.Lines.{sentence};
+ghost use Rattle.pr_text.specs.Texts.{more, vector_text};
+ghost use Rattle.pr_story.specs.declared.event.Event.TheVariants as events;
+ghost use Rattle.std.specs.Prelude.{◌≡◌, ◌++◌, OnOk, map};
+
+use crate::answer::push_found;
+use crate::field::{push_at, push_name, push_word};
+use crate::kind::Kind;
+use crate::label::push_about;
+use crate::vector::push_vector;
+use pr_names::Name;
+use pr_script::{Bytes, Decl};
+use pr_stamps::NoMemory;
+use pr_story::Found;
+use pr_vectors::Vector;
+
+/// The node's log was truncated.
+pub fn push_cut(decls: &[Decl], node: u32, at: &Vector, text: &mut Bytes) -> Result<(), NoMemory>
+    ensures { OnOk result (text.new ≡ text.old ++ sentence decls.now node (events.Cut at.now)) }
+{
+    push_about(b"cut", decls, Kind::Node, node, text)?;
+    push_at(b"at", decls, at, text)
+}
+
+/// The node dropped its bodies of the name.
+pub fn push_dropped(
+    decls: &[Decl],
+    node: u32,
+    name: &Name,
+    text: &mut Bytes,
+) -> Result<(), NoMemory>
+    ensures { OnOk result (text.new ≡ text.old ++ sentence decls.now node (events.Dropped name.now)) }
+{
+    push_about(b"drop", decls, Kind::Node, node, text)?;
+    push_name(name, text)
+}
+
+/// The node's conflicts of the name.
+pub fn push_conflicts(
+    decls: &[Decl],
+    node: u32,
+    name: &Name,
+    found: &Found,
+    text: &mut Bytes,
+) -> Result<(), NoMemory>
+    ensures { OnOk result (text.new ≡ text.old ++ sentence decls.now node (events.Conflicts name.now found.now)) }
+{
+    push_about(b"conflicts", decls, Kind::Node, node, text)?;
+    push_name(name, text)?;
+    push_found(decls, found, text)
+}
+
+/// The node's vectors.
+pub fn push_state(
+    decls: &[Decl],
+    node: u32,
+    at: &Vector,
+    cut: &Vector,
+    floor: &Vector,
+    precise: &[Vector],
+    text: &mut Bytes,
+) -> Result<(), NoMemory>
+    ensures { OnOk result (text.new ≡ text.old ++ sentence decls.now node (events.State at.now cut.now floor.now precise.now)) }
+{
+    push_about(b"state", decls, Kind::Node, node, text)?;
+    push_at(b"at", decls, at, text)?;
+    push_at(b"cut", decls, cut, text)?;
+    push_at(b"floor", decls, floor, text)?;
+    push_word(b"precise", text)?;
+    push_vectors(decls, precise, text)
+}
+
+fn push_vectors(decls: &[Decl], vectors: &[Vector], text: &mut Bytes) -> Result<(), NoMemory>
+    ensures { OnOk result (text.new ≡ text.old ++ more 32 (map (vector_text decls.now) vectors.now)) }
+{
+    for vector in vectors {
+        text.push(b' ')?;
+        push_vector(decls, vector, text)?;
+    }
+    Ok(())
+}

@@ -1,0 +1,136 @@
+// The events of streams.
+ghost use Rattle.pr_text.specs.Labels.{label};
+ghost use Rattle.pr_text.specs.Lines.{cause_text, sentence};
+ghost use Rattle.pr_text.specs.declared.kind.Kind.TheVariants as kinds;
+ghost use Rattle.pr_story.specs.declared.event.Event.TheVariants as events;
+ghost use Rattle.std.specs.Prelude.{◌≡◌, ◌++◌, ◌∷◌, OnOk, decimal};
+
+use crate::field::{push_at, push_word};
+use crate::kind::Kind;
+use crate::label::push_about;
+use crate::message::{push_kind, start_of};
+use crate::stamp::push_number;
+use pr_inval::Msg;
+use pr_script::{Bytes, Decl};
+use pr_stamps::NoMemory;
+use pr_story::Cause;
+use pr_vectors::Vector;
+
+/// The stream began, or began again.
+pub fn push_attached(
+    decls: &[Decl],
+    stream: u32,
+    at: &Vector,
+    text: &mut Bytes,
+) -> Result<(), NoMemory>
+    ensures { OnOk result (text.new ≡ text.old ++ sentence decls.now 0 (events.Attached stream at.now)) }
+{
+    push_stream(b"attach", decls, stream, text)?;
+    push_at(b"at", decls, at, text)
+}
+
+/// The source sent a message.
+pub fn push_sent(decls: &[Decl], msg: &Msg, text: &mut Bytes) -> Result<(), NoMemory>
+    ensures { OnOk result (text.new ≡ text.old ++ sentence decls.now 0 (events.Sent msg.now)) }
+{
+    push_message(b"send", decls, msg, text)?;
+    push_kind(decls, &msg.kind, text)
+}
+
+/// The source had nothing to send.
+pub fn push_idle(decls: &[Decl], stream: u32, text: &mut Bytes) -> Result<(), NoMemory>
+    ensures { OnOk result (text.new ≡ text.old ++ sentence decls.now 0 (events.Idle stream)) }
+{
+    push_stream(b"idle", decls, stream, text)
+}
+
+/// The stream lies behind the source's cut.
+pub fn push_stale(
+    decls: &[Decl],
+    stream: u32,
+    cut: &Vector,
+    text: &mut Bytes,
+) -> Result<(), NoMemory>
+    ensures { OnOk result (text.new ≡ text.old ++ sentence decls.now 0 (events.Stale stream cut.now)) }
+{
+    push_stream(b"stale", decls, stream, text)?;
+    push_at(b"cut", decls, cut, text)
+}
+
+/// The destination took a message.
+pub fn push_accepted(
+    decls: &[Decl],
+    msg: &Msg,
+    at: &Vector,
+    text: &mut Bytes,
+) -> Result<(), NoMemory>
+    ensures { OnOk result (text.new ≡ text.old ++ sentence decls.now 0 (events.Accepted msg.now at.now)) }
+{
+    push_message(b"accept", decls, msg, text)?;
+    push_at(b"at", decls, at, text)
+}
+
+/// The destination lacks what comes before a message.
+pub fn push_gapped(
+    decls: &[Decl],
+    msg: &Msg,
+    has: &Vector,
+    text: &mut Bytes,
+) -> Result<(), NoMemory>
+    ensures { OnOk result (text.new ≡ text.old ++ sentence decls.now 0 (events.Gapped msg.now has.now)) }
+{
+    push_message(b"gap", decls, msg, text)?;
+    push_at(b"needs", decls, &start_of(&msg.kind), text)?;
+    push_at(b"has", decls, has, text)
+}
+
+/// No message of this number was sent.
+pub fn push_missing(
+    decls: &[Decl],
+    stream: u32,
+    number: u64,
+    text: &mut Bytes,
+) -> Result<(), NoMemory>
+    ensures { OnOk result (text.new ≡ text.old ++ sentence decls.now 0 (events.Missing stream number)) }
+{
+    push_stream(b"missing", decls, stream, text)?;
+    push_number(number, text)
+}
+
+/// A flow ended before its turns were done.
+pub fn push_down(
+    decls: &[Decl],
+    stream: u32,
+    cause: &Cause,
+    text: &mut Bytes,
+) -> Result<(), NoMemory>
+    ensures { OnOk result (text.new ≡ text.old ++ sentence decls.now 0 (events.Down stream cause.now)) }
+{
+    push_stream(b"down", decls, stream, text)?;
+    push_cause(cause, text)
+}
+
+// Adds the first word and the stream.
+fn push_stream(word: &[u8], decls: &[Decl], stream: u32, text: &mut Bytes) -> Result<(), NoMemory>
+    ensures { OnOk result (text.new ≡ text.old ++ (word.now ++ 32 ∷ label kinds.Stream decls.now stream)) }
+{
+    push_about(word, decls, Kind::Stream, stream, text)
+}
+
+// Adds the first word, the message's stream and its number.
+fn push_message(word: &[u8], decls: &[Decl], msg: &Msg, text: &mut Bytes) -> Result<(), NoMemory>
+    ensures { OnOk result (text.new ≡ text.old ++ (word.now ++ 32 ∷ (label kinds.Stream decls.now msg.now.stream ++ 32 ∷ decimal msg.now.number))) }
+{
+    push_stream(word, decls, msg.stream, text)?;
+    push_number(msg.number, text)
+}
+
+fn push_cause(cause: &Cause, text: &mut Bytes) -> Result<(), NoMemory>
+    ensures { OnOk result (text.new ≡ text.old ++ 32 ∷ cause_text cause.now) }
+{
+    match cause {
+        Cause::Failed => push_word(b"failed", text),
+        Cause::Ended => push_word(b"ended", text),
+        Cause::Gap => push_word(b"gap", text),
+    }
+}
