@@ -16,6 +16,7 @@ pub mod Targets
 pub mod Lines
 pub mod Clients
 pub mod Sorted
+pub mod OneAnswer
 pub mod Commands
 pub mod OneTurn
 pub mod Joined
@@ -32,3 +33,7 @@ pub mod Withholding
 pub mod Naming
 pub mod Sendings
 pub mod Folds
+pub mod InOrder
+pub mod Marking
+pub mod Snapshots
+pub mod Starts

@@ -1,6 +1,6 @@
 -- A name is lit at a point, or it is dark there.
 use Rattle.std.proofs.Common.{◌≡◌, ℕ, ◌<◌, ◌≤◌, ◌⊎◌, inl, inr, List, [], ◌∷◌, refl, sym, subst, arith}
-use Rattle.std.specs.Prelude.{true, false, Bool, IsTrue}
+use Rattle.std.specs.Prelude.{true, false, Bool, IsTrue, ◌&&◌}
 use Rattle.std.proofs.lemmas.Bool.Decides.{eqb_tells}
 use Rattle.pr_stamps.specs.Point.{Point}
 use Rattle.pr_vectors.specs.Vector.{clock_of}
@@ -19,6 +19,11 @@ within a c b = grind arith
 pub bool_cases : (b : Bool) → (b ≡ true) ⊎ (b ≡ false)
 bool_cases true = inl refl
 bool_cases false = inr refl
+
+pub both_true : (a b : Bool) → (a && b) ≡ true → (a ≡ true) × (b ≡ true)
+both_true true true e = (refl, refl)
+both_true true false e = absurd (cc)
+both_true false b e = absurd (cc)
 
 module _ (o : List ℕ) (p : Point) where
   abbrev Lights : Kind → Type 0

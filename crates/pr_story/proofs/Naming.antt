@@ -89,7 +89,7 @@ this_is name o stamp s e = let t = (Decides-is_this name stamp o s).0 e in (t.0,
 pub is_so : (name o : List ℕ) (stamp s : Point) → name ≡ o → stamp ≡ s → is_this name stamp o s ≡ true
 is_so name o stamp s e f = (Decides-is_this name stamp o s).1 (e, (ap (λ (p : Point). p.clock) f, ap (λ (p : Point). p.node) f))
 
-Decides-stamp : (a b : Point) → Decides (nat_eq a.clock b.clock && nat_eq a.node b.node) ((a.clock ≡ b.clock) × (a.node ≡ b.node))
+pub Decides-stamp : (a b : Point) → Decides (nat_eq a.clock b.clock && nat_eq a.node b.node) ((a.clock ≡ b.clock) × (a.node ≡ b.node))
 Decides-stamp a b = Decides-and (nat_eq a.clock b.clock) (nat_eq a.node b.node) (Decides-eqb a.clock b.clock) (Decides-eqb a.node b.node)
 
 -- ---- gone
@@ -154,7 +154,7 @@ known_gone_where j o s gone one t = let n = named_known j o s gone t in n.1 ∙ 
 
 -- ---- marks
 
-at_marks : (marks : List Mark) (s : Point) (mark : Mark) → mark_at marks s ≡ Some mark → Contains marks mark × (mark.stamp ≡ s)
+pub at_marks : (marks : List Mark) (s : Point) (mark : Mark) → mark_at marks s ≡ Some mark → Contains marks mark × (mark.stamp ≡ s)
 at_marks [] s mark e = absurd (cc)
 at_marks (m ∷ ms) s mark e = elim (first_how (cond (nat_eq m.stamp.clock s.clock && nat_eq m.stamp.node s.node) (Some m) None) (mark_at ms s) mark e) [
   | inl here ↦
@@ -164,7 +164,7 @@ at_marks (m ∷ ms) s mark e = elim (first_how (cond (nat_eq m.stamp.clock s.clo
   | inr there ↦ let r = at_marks ms s mark there in (is_later m ms mark r.0, r.1)
 ]
 
-marks_at : (marks : List Mark) (s : Point) (mark : Mark) → Contains marks mark → mark.stamp ≡ s → (first : Mark) × (mark_at marks s ≡ Some first)
+pub marks_at : (marks : List Mark) (s : Point) (mark : Mark) → Contains marks mark → mark.stamp ≡ s → (first : Mark) × (mark_at marks s ≡ Some first)
 marks_at [] s mark c e = absurd (contains_none mark c)
 marks_at (m ∷ ms) s mark c e = elim (first_or_later m ms mark c) [
   | inl same ↦

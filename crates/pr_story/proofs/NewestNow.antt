@@ -23,7 +23,7 @@ use Rattle.pr_story.proofs.Sorted.{first_or_later, is_first}
 
 -- ---- the order of stamps
 
-before_tells : (s t : Point) → ((is_before s t ≡ true) × Before s t) ⊎ ((is_before s t ≡ false) × (Before s t → ⊥))
+pub before_tells : (s t : Point) → ((is_before s t ≡ true) × Before s t) ⊎ ((is_before s t ≡ false) × (Before s t → ⊥))
 before_tells s t = grind (arith, nat_tests)
 
 later_keeps : (s t r : Point) → Before s t → (Before s r → ⊥) → Before t r → ⊥
@@ -40,11 +40,11 @@ one_only row x c = elim (first_or_later row [] x c) [ inl same ↦ same | inr no
     none_there : Contains [] x → ⊥
     none_there c = let bad : c.0 < 0 = c.1 in omega arith
 
-first_twice : {X : Type 0} (a b c : Option X) → first_of a (first_of b c) ≡ first_of (first_of a b) c
+pub first_twice : {X : Type 0} (a b c : Option X) → first_of a (first_of b c) ≡ first_of (first_of a b) c
 first_twice (Some x) b c = refl
 first_twice None b c = refl
 
-first_none : {X : Type 0} (a : Option X) → first_of a None ≡ a
+pub first_none : {X : Type 0} (a : Option X) → first_of a None ≡ a
 first_none (Some x) = refl
 first_none None = refl
 

@@ -26,7 +26,7 @@ use Rattle.pr_story.specs.Search.{IsNewestOf}
 use Rattle.pr_story.specs.Sending.{turn_of, IsAhead, IsBodyOf, IsBodyTurn, HasBody, IsNamedList, IsNextName, lesser_name, names_in, names_in_kind, row_names}
 use Rattle.pr_story.proofs.Alike.{greatest_one}
 use Rattle.pr_story.proofs.Lit.{bool_cases}
-use Rattle.pr_story.proofs.Sorted.{contains_none, first_or_later, is_first, is_later}
+use Rattle.pr_story.proofs.Sorted.{contains_none, first_or_later, is_first, is_later, one_item}
 
 -- ---- names
 
@@ -44,9 +44,6 @@ named_rows (first ∷ rows) o row c e = elim (first_or_later first rows row c) [
   | inr later ↦ is_later first.name (row_names rows) o (named_rows rows o row later e)
 ]
 
-one_name : (n o : List ℕ) → Contains (n ∷ []) o → n ≡ o
-one_name n o c = elim (first_or_later n [] o c) [ inl same ↦ same | inr none ↦ absurd (contains_none o none) ]
-
 the_name : (n o : List ℕ) → n ≡ o → Contains (n ∷ []) o
 the_name n o e = subst (λ (q : List ℕ). Contains (n ∷ []) q) e (is_first n [])
 
@@ -56,7 +53,7 @@ NamesIt k o s =
     ⊎ ((row : Row) × HasRow k row × (row.name ≡ o) × (row.newest ≡ s))
 
 kind_names : (k : Kind) (o : List ℕ) → Contains (names_in_kind k) o → (t : Point) × NamesIt k o t
-kind_names (Precise from to write) o c = (write.stamp, inl (write, refl, one_name write.name o c, refl))
+kind_names (Precise from to write) o c = (write.stamp, inl (write, refl, one_item write.name o c, refl))
 kind_names (Checkpoint to target floor rows) o c = let r = rows_named rows o c in (r.0.newest, inr (r.0, r.1, r.2, refl))
 kind_names (Imprecise from to target) o c = absurd (contains_none o c)
 kind_names (Body name stamp bytes) o c = absurd (contains_none o c)
@@ -68,7 +65,7 @@ names_kind (Imprecise from to target) o t n = elim n [ inl x ↦ absurd x.1 | in
 names_kind (Body name stamp bytes) o t n = elim n [ inl x ↦ absurd x.1 | inr r ↦ absurd r.1 ]
 
 event_names : (event : Event) (o : List ℕ) → Contains (names_in event) o → (t : Point) × NamesStamp event o t
-event_names (Wrote client write body after) o c = (write.stamp, (one_name write.name o c, refl))
+event_names (Wrote client write body after) o c = (write.stamp, (one_item write.name o c, refl))
 event_names (Accepted msg at) o c = kind_names msg.kind o c
 event_names _ o c = absurd (contains_none o c)
 
@@ -107,7 +104,7 @@ pushed_row old was now rows row is so =
 lt_itself : (x : ℕ) (p : Bool) → p ≡ false → (nat_lt x x || (nat_eq x x && p)) ≡ false
 lt_itself x p e = grind (arith, nat_tests)
 
-not_itself : (a : List ℕ) → name_lt a a ≡ false
+pub not_itself : (a : List ℕ) → name_lt a a ≡ false
 unfolding name_lt
 not_itself [] = refl
 not_itself (x ∷ a) = lt_itself x (name_lt a a) (not_itself a)
@@ -118,7 +115,7 @@ trans_step x y z true false r a b f = grind (arith, nat_tests)
 trans_step x y z false true r a b f = grind (arith, nat_tests)
 trans_step x y z false false r a b f = grind (arith, nat_tests)
 
-transitive : (a b c : List ℕ) → name_lt a b ≡ true → name_lt b c ≡ true → name_lt a c ≡ true
+pub transitive : (a b c : List ℕ) → name_lt a b ≡ true → name_lt b c ≡ true → name_lt a c ≡ true
 unfolding name_lt
 transitive [] [] c p q = cc
 transitive (x ∷ a) [] c p q = cc
@@ -144,7 +141,7 @@ least_more j session d n best r sends is so old = subst (λ (x : Option (List �
       so.0 refl,
       λ o c b. elim (Contains-append_cases d (n ∷ []) o c) [
         | inl past ↦ absurd (old o past b)
-        | inr now ↦ subst (λ (q : List ℕ). name_lt q n ≡ false) (one_name n o now) (not_itself n)
+        | inr now ↦ subst (λ (q : List ℕ). name_lt q n ≡ false) (one_item n o now) (not_itself n)
       ],
     )
     by true (Some b) so old = elim (bool_cases (name_lt n b)) [
@@ -155,26 +152,26 @@ least_more j session d n best r sends is so old = subst (λ (x : Option (List �
             | inl lt ↦ let t : name_lt o b ≡ true = transitive o n b lt less in let f : name_lt o b ≡ false = old.1 o past w in absurd (cc)
             | inr not_lt ↦ not_lt
           ]
-          | inr now ↦ subst (λ (q : List ℕ). name_lt q n ≡ false) (one_name n o now) (not_itself n)
+          | inr now ↦ subst (λ (q : List ℕ). name_lt q n ≡ false) (one_item n o now) (not_itself n)
         ],
       )
       | inr more ↦ rw more (
         old.0,
         λ o c w. elim (Contains-append_cases d (n ∷ []) o c) [
           | inl past ↦ old.1 o past w
-          | inr now ↦ subst (λ (q : List ℕ). name_lt q b ≡ false) (one_name n o now) more
+          | inr now ↦ subst (λ (q : List ℕ). name_lt q b ≡ false) (one_item n o now) more
         ],
       )
     ]
     by false None so old = λ o c w. elim (Contains-append_cases d (n ∷ []) o c) [
       | inl past ↦ old o past w
-      | inr now ↦ let t = so.1 (subst (λ (q : List ℕ). HasBody j session q) (sym (one_name n o now)) w) in cc
+      | inr now ↦ let t = so.1 (subst (λ (q : List ℕ). HasBody j session q) (sym (one_item n o now)) w) in cc
     ]
     by false (Some b) so old = (
       old.0,
       λ o c w. elim (Contains-append_cases d (n ∷ []) o c) [
         | inl past ↦ old.1 o past w
-        | inr now ↦ let t = so.1 (subst (λ (q : List ℕ). HasBody j session q) (sym (one_name n o now)) w) in absurd (cc)
+        | inr now ↦ let t = so.1 (subst (λ (q : List ℕ). HasBody j session q) (sym (one_item n o now)) w) in absurd (cc)
       ],
     )
 

@@ -18,10 +18,13 @@ is_later y ys x c = let lt : c.0 < length ys = c.1 in (suc c.0, omega arith, c.2
 pub is_first : {X : Type 0} (y : X) (ys : List X) → Contains (y ∷ ys) y
 is_first y ys = (zero, omega arith, refl)
 
-pairs_later : {X : Type 0} (R : X → X → Type 0) (y : X) (ys : List X) → AllPairs R (y ∷ ys) → AllPairs R ys
+pub one_item : {X : Type 0} (y x : X) → Contains (y ∷ []) x → y ≡ x
+one_item y x c = elim (first_or_later y [] x c) [ inl same ↦ same | inr none ↦ absurd (contains_none x none) ]
+
+pub pairs_later : {X : Type 0} (R : X → X → Type 0) (y : X) (ys : List X) → AllPairs R (y ∷ ys) → AllPairs R ys
 pairs_later R y ys a i j d lt le = a (suc i) (suc j) d (omega arith) (omega arith)
 
-pairs_first : {X : Type 0} (R : X → X → Type 0) (y : X) (ys : List X) (x : X) → AllPairs R (y ∷ ys) → Contains ys x → R y x
+pub pairs_first : {X : Type 0} (R : X → X → Type 0) (y : X) (ys : List X) (x : X) → AllPairs R (y ∷ ys) → Contains ys x → R y x
 pairs_first R y ys x a c = let lt : c.0 < length ys = c.1 in subst (λ (z : _). R y z) c.2 (a 0 (suc c.0) x (omega arith) (omega arith))
 
 pub sorted_one : {X : Type 0} (R : X → X → Type 0) → ((x y : X) → R x y → R y x → ⊥) → (xs ys : List X) → AllPairs R xs → AllPairs R ys

@@ -15,3 +15,4 @@ pub mod Scripts
 pub mod Search
 pub mod Withheld
 pub mod Sending
+pub mod Marking

@@ -4,7 +4,7 @@ use Rattle.pr_stamps.specs.Point.{Point}
 use Rattle.pr_vectors.specs.Vector.{clock_of, Covers}
 use Rattle.pr_story.specs.declared.entry.Entry.{Entry}
 use Rattle.pr_names.specs.Span.{Span}
-use Rattle.pr_sets.specs.Spans.{has, IsSet}
+use Rattle.pr_sets.specs.Spans.{has, IsSet, Meet}
 use Rattle.pr_names.specs.Name.{IsName}
 use Rattle.pr_inval.specs.declared.kind.Kind.{Kind}
 use Rattle.pr_inval.specs.Points.{CoversPoint, is_invalidation, target_of}
@@ -16,7 +16,7 @@ use Rattle.pr_stamps.specs.Point.{Before}
 use Rattle.pr_story.specs.declared.event.Event.{Event}
 use Rattle.pr_story.specs.declared.plain.named.Named.{Named}
 use Rattle.pr_story.specs.Turns.{IsWriteToSend, IsNextWrite, IsOmitted}
-use Rattle.pr_story.specs.Told.{IsPrecise, IsUntold, IsLit}
+use Rattle.pr_story.specs.Told.{IsGreatestUpTo, IsLit, IsPrecise, IsTold, IsUntold}
 use Rattle.pr_story.specs.Knowledge.{TellsOf, WasTold, Knows, NamesStamp, gone_in_rows, gone_told, IsNewestKnown, KnowsGone}
 
 abbrev pub point : ℕ → ℕ → Point
@@ -47,6 +47,16 @@ IsRun T v n most =
 abbrev pub IsFirstUntold : ℕ → List Entry → List Span → Option Point → Type 0
 IsFirstUntold n j set None = IsPrecise n j (has set)
 IsFirstUntold n j set (Some p) = IsUntold n j (has set) p
+
+-- ---- starts
+
+-- each point is told for each of these sets that shares a name with those
+abbrev pub AreTold : ℕ → List Entry → List (List ℕ → Bool) → List Span → Point → Type 0
+AreTold n j sets names p = (set : List ℕ → Bool) → Contains sets set → Meet set (has names) → IsTold n j set p
+
+-- where a stream of these names starts, if these are the node's sets
+abbrev pub IsStartOf : ℕ → List Entry → List (List ℕ → Bool) → List Span → List ℕ → Type 0
+IsStartOf n j sets names v = IsGreatestUpTo j (AreTold n j sets names) v
 
 -- ---- newest stamps
 
