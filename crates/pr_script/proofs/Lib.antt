@@ -17,4 +17,5 @@ pub mod Shapes
 pub mod WordsAgain
 pub mod LinesAgain
 pub mod WholeScript
+pub mod Accepted
 pub mod Spelled

@@ -5,6 +5,7 @@ use Rattle.std.specs.List.{AllByRecursion, list_all}
 use Rattle.std.specs.Str.{bytes_eq}
 use Rattle.pr_names.specs.Span.{Span}
 use Rattle.pr_sets.specs.Text.{set_text}
+use Rattle.pr_script.specs.declared.decl.Decl.{Decl}
 use Rattle.pr_script.specs.declared.decl.Decl.TheVariants as decls
 use Rattle.pr_script.specs.declared.command.Command.TheVariants as commands
 use Rattle.pr_script.specs.declared.want.Want.{Want}
@@ -18,7 +19,7 @@ use Rattle.pr_script.specs.declared.word.Word.TheVariants as words
 use Rattle.pr_script.specs.Fields.{◌>>=◌, demand, wanted, is_plain, is_blank, field_at, last_field, fields_of}
 use Rattle.pr_script.specs.Texts.{last_text}
 use Rattle.pr_script.specs.Sets.{set_of, sets_of, are_apart}
-use Rattle.pr_script.specs.Labels.{is_label, is_declared, count_of}
+use Rattle.pr_script.specs.Labels.{is_label, is_declared, count_of, kind_of, label_of, most_of}
 use Rattle.pr_script.specs.Parts.{least_broken, judged, is_used, number, label_at, name_at, turns_at, home_at, written_at}
 use Rattle.pr_script.specs.Lines.{node_line, client_line, Stream, bodies_at, stream_at, stream_line, attach_line, is_ready, detach_line, send_line, checkpoint_line, deliver_line, flow_fits, may_flow, flow_line, client_fits, write_line, delete_line, read_line, move_line, want_of, want_at, want_fits, expect_line, cut_line, state_line, drop_line, conflicts_line, settle_line, phase_line, end_line, word_of, word_line, line_item}
 use Rattle.pr_script.specs.Printing.{quoted, label_text, label_field, sets_text, bodies_text, want_text, decl_text, command_text, item_text}
@@ -31,9 +32,15 @@ use Rattle.pr_script.proofs.TextAgain.{quoted_again, last_are_bytes}
 use Rattle.pr_script.proofs.Shapes.{judged_ok, holds, label_is, label_again, name_again, turns_again, home_again, written_again}
 use Rattle.pr_script.proofs.WordsAgain.{word_text, line_with, line_alone}
 
--- a declaration comes before all commands
+-- a declaration comes before all commands, and its label is a new one of a kind that has not the most
+pub record IsAdded (k : Known) (d : Decl) : Type 0 where
+  pub first : k.begun ≡ false
+  pub label : is_label (label_of d) ≡ true
+  pub undeclared : is_declared k.decls (label_of d) ≡ false
+  pub few : nat_lt (count_of (kind_of d) k.decls) (most_of (kind_of d)) ≡ true
+
 abbrev pub IsFirst : Known → Item → Type 0
-IsFirst k (items.Decl d) = k.begun ≡ false
+IsFirst k (items.Decl d) = IsAdded k d
 IsFirst k (items.Command c) = Unit {0}
 
 abbrev pub Again : Known → Item → Type 0
@@ -231,7 +238,12 @@ node_again k rest item e =
     let said = node_said k label sets item (field_is_field rest a.0 a.1) b.0 short c.2 in
     let plain : Plain (32 ∷ (label ++ sets_text sets)) = plain_more 32 (label ++ sets_text sets) refl (plain_append label (sets_text sets) (visible_plain label (label_visible label b.0)) (sets_plain sets short)) in (
       subst (λ (x : Item). line_item k (item_text k.decls x) ≡ Ok item) j.1 (line_with k words.Node (label ++ sets_text sets) item plain said),
-      subst (λ (x : Item). IsFirst k x) j.1 (not_true k.begun twelve.0),
+      subst (λ (x : Item). IsFirst k x) j.1 (record {
+        first = not_true k.begun twelve.0;
+        label = b.0;
+        undeclared = not_true (is_declared k.decls label) eight.0;
+        few = (both (nat_lt (count_of kinds.Node k.decls) 32) (nat_le (length sets) 16) ten.0).0;
+      }),
     )
 
 abbrev client_rules : Known → List ℕ → List ℕ → List (ℕ × Bool)
@@ -272,7 +284,12 @@ client_again k rest item e =
     let shown : line_item k (word_text words.Client ++ (32 ∷ (label ++ (32 ∷ label_text kinds.Node k.decls (number kinds.Node k node))))) ≡ Ok item =
     subst (λ (x : List ℕ). line_item k (word_text words.Client ++ (32 ∷ (label ++ (32 ∷ x)))) ≡ Ok item) (sym l) whole in (
       subst (λ (x : Item). line_item k (item_text k.decls x) ≡ Ok item) j.1 shown,
-      subst (λ (x : Item). IsFirst k x) j.1 (not_true k.begun twelve.0),
+      subst (λ (x : Item). IsFirst k x) j.1 (record {
+        first = not_true k.begun twelve.0;
+        label = labels.0;
+        undeclared = not_true (is_declared k.decls label) eight.0;
+        few = ten.0;
+      }),
     )
 
 -- a stream's fields
@@ -375,7 +392,12 @@ stream_again k rest item e =
     subst (λ (x : List ℕ). line_item k (word_text words.Stream ++ (32 ∷ stream_args s.label x (label_text kinds.Node k.decls (number kinds.Node k s.dest)) (set_text sub) s.bodies)) ≡ Ok item) (sym l)
     (subst (λ (y : List ℕ). line_item k (word_text words.Stream ++ (32 ∷ stream_args s.label s.source y (set_text sub) s.bodies)) ≡ Ok item) (sym m) whole) in (
       subst (λ (x : Item). line_item k (item_text k.decls x) ≡ Ok item) j.1 shown,
-      subst (λ (x : Item). IsFirst k x) j.1 (not_true k.begun first.0),
+      subst (λ (x : Item). IsFirst k x) j.1 (record {
+        first = not_true k.begun first.0;
+        label = ends.0;
+        undeclared = not_true (is_declared k.decls s.label) eight.0;
+        few = ten.0;
+      }),
     )
 
 -- ---- every line

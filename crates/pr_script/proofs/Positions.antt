@@ -58,7 +58,7 @@ one_label (c ∷ a) (d ∷ b) ha hb e =
 pub bytes_are : (a b : List ℕ) → bytes_eq a b ≡ true → a ≡ b
 bytes_are a b e = grind (arith, bytes_eq-Decides)
 
-bytes_differ : (a b : List ℕ) → a ≡ b → bytes_eq a b ≡ true
+pub bytes_differ : (a b : List ℕ) → a ≡ b → bytes_eq a b ≡ true
 bytes_differ a b e = grind (arith, bytes_eq-Decides)
 
 numbers_are : (m n : ℕ) → nat_eq m n ≡ true → m ≡ n

@@ -82,7 +82,7 @@ stays : (f : Sofar) (x : ℕ × ℕ) (ls : List (List ℕ)) → f.fault ≡ Some
 stays f x [] e = e
 stays f x (l ∷ ls) e = stays (next f l) x ls (faulty f x l e)
 
-no_fault : (f : Sofar) (o : Option (ℕ × ℕ)) (ls : List (List ℕ)) → f.fault ≡ o → (after f ls).fault ≡ None → o ≡ None
+pub no_fault : (f : Sofar) (o : Option (ℕ × ℕ)) (ls : List (List ℕ)) → f.fault ≡ o → (after f ls).fault ≡ None → o ≡ None
 no_fault f None ls e h = refl
 no_fault f (Some x) ls e h = absurd (let s = stays f x ls e in cc)
 
@@ -94,7 +94,7 @@ same_item : (f g : Sofar) (item : Item) → Alike f g → Alike (told f (Ok item
 same_item f g (items.Decl d) a = record { known = ap (λ (k : Known). known_after k (items.Decl d)) a.known; commands = map_two f g [] [] refl a.commands; fault = a.fault }
 same_item f g (items.Command c) a = record { known = ap (λ (k : Known). known_after k (items.Command c)) a.known; commands = map_two f g ((f.lines + 1, c) ∷ []) ((g.lines + 1, c) ∷ []) refl a.commands; fault = a.fault }
 
-next_is : (f : Sofar) (l : List ℕ) (r : Result Item ℕ) → f.fault ≡ None → is_skipped l ≡ false → line_item f.known l ≡ r → next f l ≡ told f r
+pub next_is : (f : Sofar) (l : List ℕ) (r : Result Item ℕ) → f.fault ≡ None → is_skipped l ≡ false → line_item f.known l ≡ r → next f l ≡ told f r
 unfolding next
 next_is f l r n e h = rw (n, e, h) refl
 
@@ -159,7 +159,7 @@ push_decl front (e ∷ ds) d =
 told_item : (f : Sofar) (line : List ℕ) (item : Item) → Begun f → line_item f.known line ≡ Ok item
     → (lines_of (told f (Ok item)) ≡ lines_of f ++ item_text f.known.decls item ∷ []) × Begun (told f (Ok item))
 told_item f line (items.Decl d) b h =
-    let none : f.commands ≡ [] = b ((item_again f.known line (items.Decl d) h).1) in (
+    let none : f.commands ≡ [] = b ((item_again f.known line (items.Decl d) h).1.first) in (
       rw none (append-nil (decl_lines [] (f.known.decls ++ d ∷ [])) ∙ push_decl [] f.known.decls d ∙ ap (λ (x : List (List ℕ)). x ++ decl_text f.known.decls d ∷ []) (sym (append-nil (decl_lines [] f.known.decls)))),
       λ e. rw (b e) refl,
     )
@@ -200,7 +200,7 @@ lines_are ls m = all_parts start ls (λ e. refl) refl m
 abbrev known_decls : Known → Decls
 known_decls k = record { list = k.decls }
 
-answered : (f : Sofar) (s : Script) (o : Option (ℕ × ℕ)) (t : Bool) → f.fault ≡ o → f.known.in_phase ≡ t → unless_fault o (unless_fault (cond t (Some (f.lines + 1, 12)) None) (Ok (script_of f))) ≡ Ok s
+pub answered : (f : Sofar) (s : Script) (o : Option (ℕ × ℕ)) (t : Bool) → f.fault ≡ o → f.known.in_phase ≡ t → unless_fault o (unless_fault (cond t (Some (f.lines + 1, 12)) None) (Ok (script_of f))) ≡ Ok s
     → (f.fault ≡ None) × (f.known.in_phase ≡ false) × (script_of f ≡ s)
 answered f s (Some x) t ef et e = absurd cc
 answered f s None true ef et e = absurd cc

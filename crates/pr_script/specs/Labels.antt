@@ -1,6 +1,6 @@
 -- Labels, and what they stand for.
-use Rattle.std.specs.Prelude.{◌≡◌, ◌<◌, ℕ, List, Option, Bool, true, false, ◌&&◌, ◌||◌, nat_le, length, is_some, map}
-use Rattle.std.specs.List.{list_all, position, filter}
+use Rattle.std.specs.Prelude.{◌≡◌, ◌<◌, ◌≤◌, ℕ, List, [], ◌∷◌, Option, Bool, true, false, ◌&&◌, ◌||◌, nat_le, length, is_some, map}
+use Rattle.std.specs.List.{AllByRecursion, list_all, position, filter}
 use Rattle.std.specs.Str.{bytes_eq}
 use Rattle.std.specs.Char.{is_ascii_alphanumeric}
 use Rattle.pr_script.specs.declared.decl.Decl.{Decl}
@@ -47,3 +47,20 @@ pub record IsNew (ds : List Decl) (d : Decl) : Type 0 where
   pub label : is_label (label_of d) ≡ true
   pub undeclared : is_declared ds (label_of d) ≡ false
   pub few : count_of (kind_of d) ds < 256
+
+-- how many of a kind there may be
+abbrev pub most_of : Kind → ℕ
+most_of kinds.Node = 32
+most_of kinds.Client = 256
+most_of kinds.Stream = 64
+
+-- none stands twice
+abbrev pub AreDistinct : List (List ℕ) → Type 0
+AreDistinct [] = Unit {0}
+AreDistinct (l ∷ ls) = AllByRecursion (λ m. ¬ (l ≡ m)) ls × AreDistinct ls
+
+-- the labels of an accepted script: each is one, none stands twice among those of its kind, and there are few of a kind
+pub record AreLabels (ds : List Decl) : Type 0 where
+  pub few : (k : Kind) → count_of k ds ≤ most_of k
+  pub each : (k : Kind) → AllByRecursion (λ l. is_label l ≡ true) (labels_of k ds)
+  pub distinct : (k : Kind) → AreDistinct (labels_of k ds)

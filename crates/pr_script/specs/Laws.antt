@@ -2,6 +2,7 @@
 use Rattle.std.specs.Prelude.{◌≡◌, ℕ, List, Result, Ok, map}
 use Rattle.pr_script.specs.declared.command.Command.{Command}
 use Rattle.pr_script.specs.declared.script.Script.{Script}
+use Rattle.pr_script.specs.Labels.{AreLabels}
 use Rattle.pr_script.specs.Reading.{Means}
 use Rattle.pr_script.specs.Printing.{script_text}
 
@@ -25,3 +26,7 @@ pub record IsAlike (s t : Script) : Type 0 where
 -- what a script is printed as is read as the same script but for the numbers of lines
 abbrev pub ReadsBack : Type 0
 ReadsBack = (bytes : List ℕ) (s : Script) → Means bytes (Ok s) → (t : Script) × Means (script_text s) (Ok t) × IsAlike s t
+
+-- the labels of an accepted script tell its nodes, clients and streams apart
+abbrev pub HaveLabels : Type 0
+HaveLabels = (bytes : List ℕ) (s : Script) → Means bytes (Ok s) → AreLabels s.decls.list

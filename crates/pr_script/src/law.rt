@@ -1,6 +1,6 @@
 // What holds of all scripts.
 ghost use Rattle.pr_names.specs.Span.{Span};
-ghost use Rattle.pr_script.specs.Laws.{HaveAMeaning, HaveOneMeaning, ReadsBack};
+ghost use Rattle.pr_script.specs.Laws.{HaveAMeaning, HaveLabels, HaveOneMeaning, ReadsBack};
 ghost use Rattle.pr_script.specs.Sets.{share};
 ghost use Rattle.pr_sets.specs.Spans.{IsSet, Meet, has};
 ghost use Rattle.std.specs.Prelude.{◌↔◌, IsTrue, List};
@@ -19,4 +19,10 @@ pub fn sets_share_a_name_where_intervals_overlap()
 /// What a script is printed as is read as the same script but for the numbers of lines.
 pub fn printed_scripts_read_back()
     ensures { ReadsBack }
+{}
+
+/// The labels of a script that is read are labels, none stands twice among those of a kind, and there are at most 32
+/// nodes, 256 clients and 64 streams.
+pub fn labels_tell_declarations_apart()
+    ensures { HaveLabels }
 {}

@@ -11,6 +11,7 @@ mod index;
 mod item;
 mod kind;
 mod known;
+mod labels;
 mod law;
 mod lines;
 mod nodes;
@@ -35,10 +36,14 @@ mod word;
 pub use command::Command;
 pub use decl::{Bytes, Decl, Decls};
 pub use fault::ScriptFault;
+pub use kind::Kind;
+pub use labels::{is_kind, label_at, label_of};
 pub use law::{
-    printed_scripts_read_back, scripts_have_one_meaning, sets_share_a_name_where_intervals_overlap,
+    labels_tell_declarations_apart, printed_scripts_read_back, scripts_have_one_meaning,
+    sets_share_a_name_where_intervals_overlap,
 };
-pub use printer::print;
+pub use printer::{print, print_decls};
 pub use reader::{Reader, read};
 pub use script::Script;
+pub use spelling::{hex_digit, print_text};
 pub use want::Want;

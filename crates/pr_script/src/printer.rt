@@ -1,14 +1,15 @@
 // Printing scripts.
-ghost use Rattle.pr_script.specs.Labels.{is_kind};
-ghost use Rattle.pr_script.specs.Printing.{bodies_text, command_lines, command_text, decl_lines, decl_text, label_text, script_text, want_text};
+ghost use Rattle.pr_script.specs.Printing.{bodies_text, command_lines, command_text, decl_lines, decl_text, label_field, quoted, script_text, want_text};
 ghost use Rattle.pr_script.specs.Reading.{ended};
 ghost use Rattle.std.specs.List.{flat_map};
-ghost use Rattle.std.specs.Prelude.{◌≡◌, ◌∷◌, ◌++◌, [], OnOk, codes};
+ghost use Rattle.pr_script.specs.declared.kind.Kind.TheVariants as kinds;
+ghost use Rattle.std.specs.Prelude.{◌≡◌, ◌∷◌, ◌++◌, [], OnOk, codes, decimal};
 
 use crate::kind::Kind;
-use crate::spelling::{counted, field, one, set_field, sets_fields, text_field, two};
-use crate::table::label_of;
+use crate::labels::label_at;
+use crate::spelling::{counted, field, one, print_text, set_field, sets_fields, two};
 use crate::{Bytes, Command, Decl, Script, Want};
+use pr_names::Name;
 use pr_stamps::NoMemory;
 
 /// Adds the script's text: a line for each declaration and each command, with one space between two fields and each set
@@ -100,75 +101,103 @@ fn print_command(decls: &[Decl], command: &Command, out: &mut Bytes) -> Result<(
     ensures { OnOk result (out.new ≡ out.old ++ command_text decls.now command.now) }
 {
     match command {
-        Command::Attach { stream } => one(out, b"attach", label_at(decls, Kind::Stream, *stream)),
-        Command::Detach { stream } => one(out, b"detach", label_at(decls, Kind::Stream, *stream)),
-        Command::Send { stream } => one(out, b"send", label_at(decls, Kind::Stream, *stream)),
-        Command::Checkpoint { stream } => {
-            one(out, b"checkpoint", label_at(decls, Kind::Stream, *stream))
-        }
-        Command::Deliver { stream, number } => {
-            counted(
-                out,
-                b"deliver",
-                label_at(decls, Kind::Stream, *stream),
-                *number,
-            )
-        }
-        Command::Flow { stream, turns } => {
-            counted(out, b"flow", label_at(decls, Kind::Stream, *stream), *turns)
-        }
-        Command::Write { client, name, body } => {
-            two(
-                out,
-                b"write",
-                label_at(decls, Kind::Client, *client),
-                name.bytes(),
-            )?;
-            text_field(out, body.as_slice())
-        }
-        Command::Delete { client, name } => {
-            two(
-                out,
-                b"delete",
-                label_at(decls, Kind::Client, *client),
-                name.bytes(),
-            )
-        }
-        Command::Read { client, name } => {
-            two(
-                out,
-                b"read",
-                label_at(decls, Kind::Client, *client),
-                name.bytes(),
-            )
-        }
-        Command::Move { client, node } => {
-            let client = label_at(decls, Kind::Client, *client);
-            two(out, b"move", client, label_at(decls, Kind::Node, *node))
-        }
+        Command::Attach { stream } => at_stream(b"attach", decls, *stream, out),
+        Command::Detach { stream } => at_stream(b"detach", decls, *stream, out),
+        Command::Send { stream } => at_stream(b"send", decls, *stream, out),
+        Command::Checkpoint { stream } => at_stream(b"checkpoint", decls, *stream, out),
+        Command::Deliver { stream, number } => times(b"deliver", decls, *stream, *number, out),
+        Command::Flow { stream, turns } => times(b"flow", decls, *stream, *turns, out),
+        Command::Write { client, name, body } => write(decls, *client, name, body, out),
+        Command::Delete { client, name } => of_client(b"delete", decls, *client, name, out),
+        Command::Read { client, name } => of_client(b"read", decls, *client, name, out),
+        Command::Move { client, node } => moved(decls, *client, *node, out),
         Command::Expect { want } => expected(out, want),
-        Command::Cut { node } => one(out, b"cut", label_at(decls, Kind::Node, *node)),
-        Command::State { node } => one(out, b"state", label_at(decls, Kind::Node, *node)),
-        Command::Drop { node, name } => {
-            two(
-                out,
-                b"drop",
-                label_at(decls, Kind::Node, *node),
-                name.bytes(),
-            )
-        }
-        Command::Conflicts { node, name } => {
-            two(
-                out,
-                b"conflicts",
-                label_at(decls, Kind::Node, *node),
-                name.bytes(),
-            )
-        }
+        Command::Cut { node } => at_node(b"cut", decls, *node, out),
+        Command::State { node } => at_node(b"state", decls, *node, out),
+        Command::Drop { node, name } => of_node(b"drop", decls, *node, name, out),
+        Command::Conflicts { node, name } => of_node(b"conflicts", decls, *node, name, out),
         Command::Settle => out.extend(b"settle"),
         Command::Phase => out.extend(b"phase"),
         Command::End => out.extend(b"end"),
     }
+}
+
+// A word and a stream.
+fn at_stream(word: &[u8], decls: &[Decl], stream: u32, out: &mut Bytes) -> Result<(), NoMemory>
+    ensures { OnOk result (out.new ≡ out.old ++ (word.now ++ label_field kinds.Stream decls.now stream)) }
+{
+    one(out, word, label_at(decls, Kind::Stream, stream))
+}
+
+// A word, a stream and a number.
+fn times(
+    word: &[u8],
+    decls: &[Decl],
+    stream: u32,
+    number: u64,
+    out: &mut Bytes,
+) -> Result<(), NoMemory>
+    ensures { OnOk result (out.new ≡ out.old ++ (word.now ++ (label_field kinds.Stream decls.now stream ++ (32 ∷ decimal number)))) }
+{
+    counted(out, word, label_at(decls, Kind::Stream, stream), number)
+}
+
+fn write(
+    decls: &[Decl],
+    client: u32,
+    name: &Name,
+    body: &Bytes,
+    out: &mut Bytes,
+) -> Result<(), NoMemory>
+    ensures { OnOk result (out.new ≡ out.old ++ (codes "write" ++ (label_field kinds.Client decls.now client ++ (32 ∷ (name.now ++ (32 ∷ quoted body.now)))))) }
+{
+    of_client(b"write", decls, client, name, out)?;
+    print_text(out, body.as_slice())
+}
+
+// A word, a client and a name.
+fn of_client(
+    word: &[u8],
+    decls: &[Decl],
+    client: u32,
+    name: &Name,
+    out: &mut Bytes,
+) -> Result<(), NoMemory>
+    ensures { OnOk result (out.new ≡ out.old ++ (word.now ++ (label_field kinds.Client decls.now client ++ (32 ∷ name.now)))) }
+{
+    two(
+        out,
+        word,
+        label_at(decls, Kind::Client, client),
+        name.bytes(),
+    )
+}
+
+fn moved(decls: &[Decl], client: u32, node: u32, out: &mut Bytes) -> Result<(), NoMemory>
+    ensures { OnOk result (out.new ≡ out.old ++ (codes "move" ++ (label_field kinds.Client decls.now client ++ label_field kinds.Node decls.now node))) }
+{
+    let client = label_at(decls, Kind::Client, client);
+    two(out, b"move", client, label_at(decls, Kind::Node, node))
+}
+
+// A word and a node.
+fn at_node(word: &[u8], decls: &[Decl], node: u32, out: &mut Bytes) -> Result<(), NoMemory>
+    ensures { OnOk result (out.new ≡ out.old ++ (word.now ++ label_field kinds.Node decls.now node)) }
+{
+    one(out, word, label_at(decls, Kind::Node, node))
+}
+
+// A word, a node and a name.
+fn of_node(
+    word: &[u8],
+    decls: &[Decl],
+    node: u32,
+    name: &Name,
+    out: &mut Bytes,
+) -> Result<(), NoMemory>
+    ensures { OnOk result (out.new ≡ out.old ++ (word.now ++ (label_field kinds.Node decls.now node ++ (32 ∷ name.now)))) }
+{
+    two(out, word, label_at(decls, Kind::Node, node), name.bytes())
 }
 
 #[tactic(auto, unfolding(crate::specs::Printing::want_text))]
@@ -178,39 +207,12 @@ fn expected(out: &mut Bytes, want: &Want) -> Result<(), NoMemory>
     match want {
         Want::Value(text) => {
             out.extend(b"expect value")?;
-            text_field(out, text.as_slice())
+            print_text(out, text.as_slice())
         }
         Want::Never => out.extend(b"expect never"),
         Want::Imprecise => out.extend(b"expect imprecise"),
         Want::Body => out.extend(b"expect body"),
         Want::Gone => out.extend(b"expect gone"),
         Want::Behind => out.extend(b"expect behind"),
-    }
-}
-
-// The label with this number of its kind.
-fn label_at<'a>(decls: &'a [Decl], kind: Kind, number: u32) -> &'a [u8]
-    ensures { result.now ≡ label_text kind decls.now number }
-{
-    let mut left = number;
-    for decl in decls {
-        if is_kind(kind, decl) {
-            if left == 0 {
-                return label_of(decl);
-            }
-            left -= 1;
-        }
-    }
-    b"".as_slice()
-}
-
-fn is_kind(kind: Kind, decl: &Decl) -> bool
-    ensures { result ≡ is_kind kind decl.now }
-{
-    match (kind, decl) {
-        (Kind::Node, Decl::Node { .. }) => true,
-        (Kind::Client, Decl::Client { .. }) => true,
-        (Kind::Stream, Decl::Stream { .. }) => true,
-        _ => false,
     }
 }

@@ -1,8 +1,9 @@
 // Reading in any pieces.
 ghost use Rattle.pr_script.specs.Answers.{Answers, Holds, IsEnd};
+ghost use Rattle.pr_script.specs.Labels.{AreLabels};
 ghost use Rattle.pr_script.specs.Reading.{StandsFor};
 ghost use Rattle.pr_script.specs.declared.fault.ScriptFault.TheVariants as faults;
-ghost use Rattle.std.specs.Prelude.{◌≡◌, ◌++◌, ◌∷◌, [], IsErr, IsErrOf, List, OnErr, OnOk, true, ℕ};
+ghost use Rattle.std.specs.Prelude.{◌≡◌, ◌++◌, ◌∷◌, [], IfOk, IsErr, IsErrOf, List, OnErr, OnOk, true, ℕ};
 
 use crate::progress::Progress;
 use crate::{Bytes, Script, ScriptFault};
@@ -62,6 +63,7 @@ impl Reader {
     /// The script of all the bytes, or its first fault, in time linear in the line under way.
     pub fn finish(self) -> Result<Script, ScriptFault>
         ensures exact { (before : List ℕ) → Holds self before → Answers result before }
+        ensures labels { (before : List ℕ) → Holds self before → IfOk result (λ s. AreLabels s.decls.list) }
         ensures spent { self.spent ≡ true → IsErrOf result faults.NoMemory }
     {
         if self.spent {
@@ -80,6 +82,7 @@ impl Reader {
 /// The script of the bytes, or its first fault, in time linear in the bytes (docs/SCRIPT.md has the language).
 pub fn read(alloc: Global, bytes: &[u8]) -> Result<Script, ScriptFault>
     ensures exact { Answers result bytes.now }
+    ensures labels { IfOk result (λ s. AreLabels s.decls.list) }
 {
     let mut reader = Reader::new(alloc);
     match reader.push(bytes) {

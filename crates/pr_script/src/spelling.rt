@@ -40,8 +40,9 @@ pub fn counted(out: &mut Bytes, word: &[u8], first: &[u8], number: u64) -> Resul
     two(out, word, first, digits.format(number).as_bytes())
 }
 
-/// A text in quotes.
-pub fn text_field(out: &mut Bytes, text: &[u8]) -> Result<(), NoMemory>
+/// Adds a space and the text in quotes. A byte outside 0x20 to 0x7E, a quote and a backslash are written as a backslash
+/// and two digits of 0-9 a-f.
+pub fn print_text(out: &mut Bytes, text: &[u8]) -> Result<(), NoMemory>
     ensures { OnOk result (out.new ≡ out.old ++ 32 ∷ quoted text.now) }
 {
     out.extend(b" \"")?;
@@ -61,7 +62,8 @@ fn spell(out: &mut Bytes, b: u8) -> Result<(), NoMemory>
     out.extend(&[b'\\', hex_digit(b / 16), hex_digit(b % 16)])
 }
 
-fn hex_digit(n: u8) -> u8
+/// The digit of a value below 16, of 0-9 a-f.
+pub fn hex_digit(n: u8) -> u8
     requires { n < 16 }
     ensures { result ≡ hex_digit n }
 {

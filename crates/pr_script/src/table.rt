@@ -1,5 +1,5 @@
 // The declarations so far, with the numbers of their labels.
-ghost use Rattle.pr_script.specs.Labels.{IsNew, count_of, is_declared, is_label, kind_of, label_of, labels_of, number_among};
+ghost use Rattle.pr_script.specs.Labels.{IsNew, count_of, is_declared, is_label, label_of, labels_of, number_among};
 ghost use Rattle.pr_script.specs.Packed.{packed};
 ghost use Rattle.std.specs.Char.{is_ascii_alphanumeric};
 ghost use Rattle.std.specs.List.{AllByRecursion, list_all, list_any};
@@ -8,6 +8,7 @@ ghost use Rattle.std.specs.Prelude.{◌≡◌, ◌≤◌, [], ◌∷◌, ◌++�
 use crate::decl::{Decl, Decls};
 use crate::index;
 use crate::kind::Kind;
+use crate::labels::{kind_of, label_of};
 use indexmap::IndexSet;
 use pr_stamps::{NoMemory, Seq};
 use std::alloc::Global;
@@ -118,26 +119,6 @@ impl Table {
         ensures { result.list ≡ self }
     {
         Decls { list: self.decls }
-    }
-}
-
-pub fn label_of(decl: &Decl) -> &[u8]
-    ensures { result.now ≡ label_of decl.now }
-{
-    match decl {
-        Decl::Node { label, .. } => label.as_slice(),
-        Decl::Client { label, .. } => label.as_slice(),
-        Decl::Stream { label, .. } => label.as_slice(),
-    }
-}
-
-fn kind_of(decl: &Decl) -> Kind
-    ensures { result ≡ kind_of decl.now }
-{
-    match decl {
-        Decl::Node { .. } => Kind::Node,
-        Decl::Client { .. } => Kind::Client,
-        Decl::Stream { .. } => Kind::Stream,
     }
 }
 

@@ -1,9 +1,11 @@
 ghost use Rattle.std.specs.Prelude.{◌<◌};
 
 mod examples;
+mod long;
 
 use crate::{Bytes, Reader, Script, ScriptFault, print, read};
 use examples::{CACHE, CHECKPOINT, HOME, PHASE, RING};
+use long::{DELETES, DEVICES, HOPS, MOVES};
 use pr_stamps::Seq;
 use std::alloc::Global;
 use std::test::Fail;
@@ -62,8 +64,8 @@ fn each_rule_is_named(rt: HostRuntime) {
 }
 
 #[test]
-fn commands_are_judged(rt: HostRuntime) -> Result<(), Fail> {
-    let cases: [(&[u8], u64, u8); 30] = [
+fn reads_and_expectations(rt: HostRuntime) -> Result<(), Fail> {
+    let cases: [(&[u8], u64, u8); 8] = [
         (b"read c a/x\n# a comment\n\nexpect never", 0, 0),
         (b"write c a/x \"\"\nexpect never", 2, 12),
         (b"read c a/x\nexpect gone", 0, 0),
@@ -71,36 +73,72 @@ fn commands_are_judged(rt: HostRuntime) -> Result<(), Fail> {
         (b"read c a/x\nexpect lost", 2, 3),
         (b"read c a/x\nexpect value \"a\" b", 2, 3),
         (b"read c a/x\nexpect never \"a\"", 2, 3),
+        (b"read c \"a\"", 1, 5),
+    ];
+    for (lines, line, why) in cases {
+        assert_eq!(rt; fault_behind(rt.alloc(), lines)?, (line, why));
+    }
+    Ok(())
+}
+
+#[test]
+fn quoted_texts(rt: HostRuntime) -> Result<(), Fail> {
+    let cases: [(&[u8], u64, u8); 5] = [
         (b"write c a/x \"\\41\"", 1, 3),
         (b"write c a/x \"\\0a \\22\\5c\"", 0, 0),
         (b"write c a/x \"\\0A\"", 1, 3),
         (b"write c a/x \"a\"b", 1, 3),
         (b"write c a/x a", 1, 3),
-        (b"read c \"a\"", 1, 5),
-        (b"  delete   c  a/x  ", 0, 0),
-        (
-            b"phase\ndelete c a/x\nwrite c a/y \"\"\nread d a/x\nflow s 1\nend",
-            0,
-            0,
-        ),
+    ];
+    for (lines, line, why) in cases {
+        assert_eq!(rt; fault_behind(rt.alloc(), lines)?, (line, why));
+    }
+    Ok(())
+}
+
+const JOBS: &[u8] = b"phase\ndelete c a/x\nwrite c a/y \"\"\nread d a/x\nflow s 1\nend";
+
+#[test]
+fn phases(rt: HostRuntime) -> Result<(), Fail> {
+    let cases: [(&[u8], u64, u8); 6] = [
+        (JOBS, 0, 0),
         (b"phase\nmove c B\nend", 2, 12),
         (b"phase\nread c a/x\nexpect never\nend", 3, 12),
         (b"phase\nphase", 2, 12),
         (b"end", 1, 12),
         (b"phase\nflow s 1\nflow s 1\nend", 3, 12),
+    ];
+    for (lines, line, why) in cases {
+        assert_eq!(rt; fault_behind(rt.alloc(), lines)?, (line, why));
+    }
+    Ok(())
+}
+
+#[test]
+fn labels_and_names(rt: HostRuntime) -> Result<(), Fail> {
+    let cases: [(&[u8], u64, u8); 5] = [
+        (b"  delete   c  a/x  ", 0, 0),
         (b"move c B\nmove c c", 2, 9),
         (b"move c A!", 1, 4),
-        (
-            b"deliver s 4611686018427387903\ndeliver s 4611686018427387904",
-            2,
-            7,
-        ),
+        (b"cut A\nstate B\ndrop A a/x\nconflicts B a/x\nsettle", 0, 0),
+        (b"cut s", 1, 9),
+    ];
+    for (lines, line, why) in cases {
+        assert_eq!(rt; fault_behind(rt.alloc(), lines)?, (line, why));
+    }
+    Ok(())
+}
+
+const GREATEST: &[u8] = b"deliver s 4611686018427387903\ndeliver s 4611686018427387904";
+
+#[test]
+fn numbers(rt: HostRuntime) -> Result<(), Fail> {
+    let cases: [(&[u8], u64, u8); 6] = [
+        (GREATEST, 2, 7),
         (b"deliver s 01", 1, 7),
         (b"deliver s 184467440737095516170", 1, 7),
         (b"flow s 1000001", 1, 7),
         (b"flow s 600000\nflow s 400000\nflow s 1", 3, 10),
-        (b"cut A\nstate B\ndrop A a/x\nconflicts B a/x\nsettle", 0, 0),
-        (b"cut s", 1, 9),
         (b"checkpoint s\nsend s 1", 2, 3),
     ];
     for (lines, line, why) in cases {
@@ -205,8 +243,11 @@ fn a_phase_has_at_most_64_jobs(rt: HostRuntime) -> Result<(), Fail> {
 
 #[test]
 fn empty_lines_are_counted(rt: HostRuntime) -> Result<(), Fail> {
-    let script = repeated(rt.alloc(), b"", 100000, b"\n", b"nod")?;
-    assert_eq!(rt; fault(rt.alloc(), script.as_slice()), (100001, 2));
+    let cases: [(&[u8], u64, u8); 2] = [(b"", 0, 0), (b"nod", 100001, 2)];
+    for (end, line, why) in cases {
+        let script = repeated(rt.alloc(), b"", 100000, b"\n", end)?;
+        assert_eq!(rt; fault(rt.alloc(), script.as_slice()), (line, why));
+    }
     Ok(())
 }
 
@@ -255,6 +296,18 @@ fn examples_are_read_and_printed(rt: HostRuntime) -> Result<(), Fail> {
         let once = printed(rt.alloc(), script)?;
         let twice = printed(rt.alloc(), once.as_slice())?;
         assert_eq!(rt; once.as_slice(), twice.as_slice());
+    }
+    Ok(())
+}
+
+#[test]
+fn long_scripts_are_printed_as_they_stand(rt: HostRuntime) -> Result<(), Fail> {
+    let scripts: [&[u8]; 4] = [HOPS, DEVICES, DELETES, MOVES];
+    for script in scripts {
+        let once = printed(rt.alloc(), script)?;
+        assert_eq!(rt; once.as_slice(), script);
+        let twice = printed(rt.alloc(), once.as_slice())?;
+        assert_eq!(rt; twice.as_slice(), script);
     }
     Ok(())
 }

@@ -1,7 +1,7 @@
 use Rattle.std.proofs.Common.{◌≡◌, ◌++◌, ◌∷◌, [], drop}
 use Rattle.std.specs.List.{flat_map}
 use Rattle.pr_script.specs.Printing.{spell}
-use Rattle.pr_script.proofs.spelling.text_field.Given as goal
+use Rattle.pr_script.proofs.spelling.print_text.Given as goal
 
 abbrev pub invariant-loop-b : goal.invariant-loop-b
 invariant-loop-b l = l.out ++ flat_map spell (drop l.b-index l.text) ≡ (l.fn.out ++ 32 ∷ 34 ∷ []) ++ flat_map spell l.text

@@ -1,8 +1,8 @@
 use Rattle.std.proofs.Common.{arith, sym, ◌∙◌}
 use Rattle.pr_script.specs.Printing.{label_text}
 use Rattle.pr_script.proofs.Spelled.{label_found, label_passed, label_skipped, label_none}
-use Rattle.pr_script.proofs.printer.label_at.Goals as goal
-use Rattle.pr_script.proofs.printer.label_at.Goals.{then-is_kind+else-left-eq0, else-is_kind}
+use Rattle.pr_script.proofs.labels.label_at.Goals as goal
+use Rattle.pr_script.proofs.labels.label_at.Goals.{then-is_kind+else-left-eq0, else-is_kind}
 
 pub returns-then-left-eq0 : goal.returns-then-left-eq0
 unfolding label_text
