@@ -1,17 +1,13 @@
--- What the words of the command line ask for. An option is one word `--key=value` or two words, before or after the mode.
--- One word `--` may stand before the mode or behind all else, and no option follows it.
-use Rattle.std.specs.Prelude.{◌≡◌, ℕ, List, [], ◌∷◌, ◌++◌, Option, Some, None, Result, Ok, Err, true, false, nat_le, length, take, drop, codes, if◌then◌else◌}
+-- What the words of the command line ask for. An option is one word `--key=value` or two words, before or after the mode,
+-- and stands once. One word `--` may stand before the mode or behind all else, and no option follows it.
+use Rattle.std.specs.Prelude.{◌≡◌, ℕ, List, [], ◌∷◌, Option, Some, None, Result, Ok, Err, Bool, true, false, is_some, ◌==◌, codes, if◌then◌else◌}
 use Rattle.std.specs.Str.{bytes_eq}
 use Rattle.pr_words.specs.declared.fault.WordsFault.{WordsFault}
 use Rattle.pr_words.specs.declared.fault.WordsFault.TheVariants as faults
-use Rattle.pr_words.specs.declared.given.Given.{Given}
 use Rattle.pr_words.specs.declared.job.Job.{Job}
 use Rattle.pr_words.specs.declared.job.Job.TheVariants as jobs
-use Rattle.pr_words.specs.declared.key.Key.{Key}
-use Rattle.pr_words.specs.declared.key.Key.TheVariants as keys
 use Rattle.pr_words.specs.declared.mode.Mode.{Mode}
 use Rattle.pr_words.specs.declared.mode.Mode.TheVariants as modes
-use Rattle.pr_words.specs.declared.seen.Seen.{Seen}
 use Rattle.pr_words.specs.Numbers.{number_in, is_label}
 
 -- ---- single words
@@ -28,60 +24,86 @@ mode_of w =
     else if bytes_eq w (codes "pull") then Some modes.Pull
     else None
 
+-- the options
+pub data Key : Type 0 where
+  Seed : Key
+  Size : Key
+  Stop : Key
+  Node : Key
+
 unfoldable pub key_of : List ℕ → Option Key
 key_of w =
-    if bytes_eq w (codes "--seed") then Some keys.Seed
-    else if bytes_eq w (codes "--size") then Some keys.Size
-    else if bytes_eq w (codes "--stop") then Some keys.Stop
-    else if bytes_eq w (codes "--node") then Some keys.Node
+    if bytes_eq w (codes "--seed") then Some Seed
+    else if bytes_eq w (codes "--size") then Some Size
+    else if bytes_eq w (codes "--stop") then Some Stop
+    else if bytes_eq w (codes "--node") then Some Node
     else None
 
--- a word that begins with seven bytes, an option's name and `=`, and what stands behind them
+-- a word that begins with an option's name and `=`, seven bytes, and what stands behind them
 abbrev pub keyed : Option Key → List ℕ → Option (Key × List ℕ)
 keyed None value = None
 keyed (Some key) value = Some (key, value)
 
 unfoldable pub front_of : List ℕ → Option Key
 front_of w =
-    if bytes_eq w (codes "--seed=") then Some keys.Seed
-    else if bytes_eq w (codes "--size=") then Some keys.Size
-    else if bytes_eq w (codes "--stop=") then Some keys.Stop
-    else if bytes_eq w (codes "--node=") then Some keys.Node
+    if bytes_eq w (codes "--seed=") then Some Seed
+    else if bytes_eq w (codes "--size=") then Some Size
+    else if bytes_eq w (codes "--stop=") then Some Stop
+    else if bytes_eq w (codes "--node=") then Some Node
     else None
 
 unfoldable pub option_of : List ℕ → Option (Key × List ℕ)
-option_of w = if nat_le 7 (length w) then keyed (front_of (take 7 w)) (drop 7 w) else None
+option_of (a ∷ b ∷ c ∷ d ∷ e ∷ f ∷ g ∷ value) = keyed (front_of (a ∷ b ∷ c ∷ d ∷ e ∷ f ∷ g ∷ [])) value
+option_of w = None
 
--- ---- word after word: the mode, the options with their values, the option whose value comes next, and whether `--` stood
+-- a hyphen and more: an option or `--`, or nothing that is known
+abbrev pub is_flag : List ℕ → Bool
+is_flag (b ∷ c ∷ w) = b == 45
+is_flag w = false
+
+-- ---- word after word: the word for the mode, the options' values, the option whose value comes next, and whether `--`
+-- ---- stood
+
+pub record Seen : Type 0 where
+  pub mode : Option (List ℕ)
+  pub seed : Option (List ℕ)
+  pub size : Option (List ℕ)
+  pub stop : Option (List ℕ)
+  pub node : Option (List ℕ)
+  pub waiting : Option Key
+  pub closed : Bool
 
 abbrev pub nothing_seen : Seen
-nothing_seen = record { mode = None; given = []; waiting = None; closed = false }
+nothing_seen = record { mode = None; seed = None; size = None; stop = None; node = None; waiting = None; closed = false }
 
-abbrev pub with_value : Seen → Key → List ℕ → Seen
-with_value s key value = record { mode = s.mode; given = s.given ++ record { key = key; value = value } ∷ []; waiting = None; closed = s.closed }
+-- an option stands once
+abbrev pub with_value : Seen → Key → List ℕ → Option Seen
+with_value s Seed v = if is_some s.seed then None else Some (record s { seed = Some v; waiting = None })
+with_value s Size v = if is_some s.size then None else Some (record s { size = Some v; waiting = None })
+with_value s Stop v = if is_some s.stop then None else Some (record s { stop = Some v; waiting = None })
+with_value s Node v = if is_some s.node then None else Some (record s { node = Some v; waiting = None })
 
--- the word can only be the mode, of which there is one
-abbrev pub as_mode : Seen → Option Mode → Option Mode → Option Seen
-as_mode s None (Some m) = Some (record { mode = Some m; given = s.given; waiting = s.waiting; closed = s.closed })
-as_mode s was new = None
+-- a word that is no option is the mode, of which there is one
+abbrev pub as_mode : Seen → List ℕ → Option Seen
+as_mode s w = if is_some s.mode then None else Some (record s { mode = Some w })
 
 abbrev pub as_key : Seen → Option Key → List ℕ → Option Seen
-as_key s (Some key) w = Some (record { mode = s.mode; given = s.given; waiting = Some key; closed = s.closed })
-as_key s None w = as_mode s s.mode (mode_of w)
+as_key s (Some key) w = Some (record s { waiting = Some key })
+as_key s None w = if is_flag w then None else as_mode s w
 
 abbrev pub as_option : Seen → Option (Key × List ℕ) → List ℕ → Option Seen
-as_option s (Some o) w = Some (with_value s o.0 o.1)
+as_option s (Some o) w = with_value s o.0 o.1
 as_option s None w = as_key s (key_of w) w
 
 abbrev pub as_word : Seen → List ℕ → Option Seen
 as_word s w =
-    if s.closed then as_mode s s.mode (mode_of w)
-    else if bytes_eq w (codes "--") then Some (record { mode = s.mode; given = s.given; waiting = s.waiting; closed = true })
+    if s.closed then as_mode s w
+    else if bytes_eq w (codes "--") then Some (record s { closed = true })
     else as_option s (option_of w) w
 
--- what stands behind an option is its value
+-- what stands behind an option is its value, and no hyphen with more behind it
 abbrev pub as_next : Seen → Option Key → List ℕ → Option Seen
-as_next s (Some key) w = Some (with_value s key w)
+as_next s (Some key) w = if is_flag w then None else with_value s key w
 as_next s None w = as_word s w
 
 unfoldable pub next_seen : Seen → List ℕ → Option Seen
@@ -92,65 +114,63 @@ all_seen None ws = None
 all_seen (Some s) [] = Some s
 all_seen (Some s) (w ∷ ws) = all_seen (next_seen s w) ws
 
--- ---- jobs
+-- ---- jobs, each with the options that it takes: the seed, the size, the stop and the node
+
+abbrev pub alone : Job → Option (List ℕ) → Option (List ℕ) → Option (List ℕ) → Option (List ℕ) → Option Job
+alone job None None None None = Some job
+alone job seed size stop label = None
 
 abbrev pub made : Option ℕ → Option ℕ → Option Job
 made (Some seed) (Some size) = Some (jobs.Gen seed size)
 made seed size = None
 
--- the two options of gen, in either order
-abbrev pub made_by : Key → List ℕ → Key → List ℕ → Option Job
-made_by keys.Seed seed keys.Size size = made (number_in 0 18446744073709551615 seed) (number_in 1 90000 size)
-made_by keys.Size size keys.Seed seed = made (number_in 0 18446744073709551615 seed) (number_in 1 90000 size)
-made_by k v l w = None
+abbrev pub made_by : Option (List ℕ) → Option (List ℕ) → Option (List ℕ) → Option (List ℕ) → Option Job
+made_by (Some seed) (Some size) None None = made (number_in 0 18446744073709551615 seed) (number_in 1 90000 size)
+made_by seed size stop label = None
 
 abbrev pub stopped : Option ℕ → Option Job
 stopped (Some stop) = Some (jobs.Kept (Some stop))
 stopped None = None
 
-abbrev pub stopped_by : Key → List ℕ → Option Job
-stopped_by keys.Stop stop = stopped (number_in 2 1000000000 stop)
-stopped_by k v = None
+abbrev pub kept_by : Option (List ℕ) → Option (List ℕ) → Option (List ℕ) → Option (List ℕ) → Option Job
+kept_by None None None None = Some (jobs.Kept None)
+kept_by None None (Some stop) None = stopped (number_in 2 1000000000 stop)
+kept_by seed size stop label = None
 
 abbrev pub at_node : Mode → List ℕ → Option Job
-at_node modes.Ask node = Some (jobs.Ask node)
-at_node modes.Serve node = Some (jobs.Serve node)
-at_node modes.Pull node = Some (jobs.Pull node)
-at_node m node = None
+at_node modes.Ask label = Some (jobs.Ask label)
+at_node modes.Serve label = Some (jobs.Serve label)
+at_node modes.Pull label = Some (jobs.Pull label)
+at_node m label = None
 
-abbrev pub node_by : Mode → Key → List ℕ → Option Job
-node_by m keys.Node node = if is_label node then at_node m node else None
-node_by m k v = None
+abbrev pub node_by : Mode → Option (List ℕ) → Option (List ℕ) → Option (List ℕ) → Option (List ℕ) → Option Job
+node_by m None None None (Some label) = if is_label label then at_node m label else None
+node_by m seed size stop label = None
 
-abbrev pub alone : Mode → Option Job
-alone modes.Sim = Some jobs.Sim
-alone modes.Run = Some jobs.Run
-alone modes.Check = Some jobs.Check
-alone modes.Kept = Some (jobs.Kept None)
-alone m = None
+abbrev pub job_by : Mode → Option (List ℕ) → Option (List ℕ) → Option (List ℕ) → Option (List ℕ) → Option Job
+job_by modes.Sim seed size stop label = alone jobs.Sim seed size stop label
+job_by modes.Run seed size stop label = alone jobs.Run seed size stop label
+job_by modes.Check seed size stop label = alone jobs.Check seed size stop label
+job_by modes.Gen seed size stop label = made_by seed size stop label
+job_by modes.Kept seed size stop label = kept_by seed size stop label
+job_by m seed size stop label = node_by m seed size stop label
 
-abbrev pub with_one : Mode → Given → Option Job
-with_one modes.Kept g = stopped_by g.key g.value
-with_one m g = node_by m g.key g.value
+abbrev pub in_mode : Option Mode → Option (List ℕ) → Option (List ℕ) → Option (List ℕ) → Option (List ℕ) → Option Job
+in_mode None seed size stop label = None
+in_mode (Some m) seed size stop label = job_by m seed size stop label
 
-abbrev pub with_two : Mode → Given → Given → Option Job
-with_two modes.Gen g h = made_by g.key g.value h.key h.value
-with_two m g h = None
+abbrev pub asked : Option (List ℕ) → Option (List ℕ) → Option (List ℕ) → Option (List ℕ) → Option (List ℕ) → Option Job
+asked None seed size stop label = None
+asked (Some w) seed size stop label = in_mode (mode_of w) seed size stop label
 
-abbrev pub job_by : Mode → List Given → Option Job
-job_by m [] = alone m
-job_by m (g ∷ []) = with_one m g
-job_by m (g ∷ h ∷ []) = with_two m g h
-job_by m (g ∷ h ∷ i ∷ gs) = None
-
--- a mode, and no option without its value
-abbrev pub asked : Option Mode → Option Key → List Given → Option Job
-asked (Some m) None gs = job_by m gs
-asked m k gs = None
+-- no option is without its value
+abbrev pub ended : Option Key → Seen → Option Job
+ended None s = asked s.mode s.seed s.size s.stop s.node
+ended (Some key) s = None
 
 abbrev pub finished : Option Seen → Option Job
 finished None = None
-finished (Some s) = asked s.mode s.waiting s.given
+finished (Some s) = ended s.waiting s
 
 -- the job that the words ask for
 unfoldable pub job_of : List (List ℕ) → Option Job

@@ -8,7 +8,7 @@ use thiserror::Error;
 /// The words ask for no job, or there was no memory.
 #[derive(Clone, Copy, Debug, PartialEq, Eq, Error)]
 pub enum WordsFault {
-    #[error("usage: practi sim | run | check | gen --seed N --size N | kept [--stop N] | ask --node LABEL")]
+    #[error("usage: practi sim | run | check | gen --seed N --size N | kept [--stop N] | ask|serve|pull --node LABEL")]
     Usage,
     #[error("no memory")]
     NoMemory,

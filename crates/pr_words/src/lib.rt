@@ -1,17 +1,19 @@
 //! The words of the command line.
 #![tactic(auto)]
 
+mod command;
 mod fault;
 mod given;
 mod job;
-mod key;
+mod law;
 mod mode;
+mod modes;
 mod number;
 mod reading;
-mod seen;
 #[cfg(test)]
 mod tests;
 
 pub use fault::WordsFault;
 pub use job::{Bytes, Job};
+pub use law::words_that_ask_are_calls;
 pub use reading::read;
