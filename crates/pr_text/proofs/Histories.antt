@@ -10,11 +10,12 @@ use Rattle.pr_story.specs.declared.event.Event.{Event}
 use Rattle.pr_story.specs.declared.event.Event.TheVariants.{Wrote, Attached, Sent, Idle, Stale, Accepted, Gapped, Missing, Down, Answered, Behind, Moved, Cut, Dropped, Conflicts, State}
 use Rattle.pr_story.proofs.Lines.{lines_determine}
 use Rattle.pr_story.proofs.Steps.{entry_at}
-use Rattle.pr_text.specs.Labels.{AreLabels, label}
+use Rattle.pr_script.specs.Labels.{AreLabels}
+use Rattle.pr_script.specs.Printing.{label_text as label}
 use Rattle.pr_text.specs.Lines.{fields_of, line_text, sentence, word_of}
 use Rattle.pr_text.specs.Numbers.{Has, HasEvent}
 use Rattle.pr_text.specs.Transcripts.{AllDeclared, LinesTell, lines_text, plan_of}
-use Rattle.pr_text.specs.declared.kind.Kind.TheVariants as kinds
+use Rattle.pr_script.specs.declared.kind.Kind.TheVariants as kinds
 use Rattle.pr_text.proofs.Cut.{Lacks}
 use Rattle.pr_text.proofs.Items.{nothing_here}
 use Rattle.pr_text.proofs.Fields.{AllLack, ended, ended_more, lack_more, last_same, lines_same, sentence_lacks, sentence_same}

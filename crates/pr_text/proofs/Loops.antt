@@ -4,7 +4,7 @@ use Rattle.std.specs.Prelude.{nat_eq, ◌==◌, Result, Ok, Err, OnOk}
 use Rattle.std.specs.List.{flat_map}
 use Rattle.std.proofs.lemmas.Bool.Decides.{nat_tests}
 use Rattle.std.proofs.lemmas.List.{drop_more, drop_all, append-nil}
-use Rattle.pr_text.specs.Texts.{between, byte_text, joined, listed, more}
+use Rattle.pr_text.specs.Texts.{between, joined, listed, more}
 
 -- ---- items joined by a byte
 
@@ -50,19 +50,6 @@ ended f b i xs text all le e =
 pub some_listed : {T : Type 0} (f : T → List ℕ) (xs : List T) → (length xs == 0) ≡ false → listed (map f xs) ≡ joined 44 (map f xs)
 some_listed f [] e = cc
 some_listed f (x ∷ xs) e = refl
-
--- ---- bytes
-
-pub byte_turn : (bytes : List ℕ) (i : ℕ) (text new all : List ℕ)
-    → i < length bytes → new ≡ text ++ byte_text (get_or bytes i 0)
-    → text ++ flat_map byte_text (drop i bytes) ≡ all → new ++ flat_map byte_text (drop (i + 1) bytes) ≡ all
-byte_turn bytes i text new all lt p e =
-    let rest = flat_map byte_text (drop (i + 1) bytes) in
-    ap (λ t. t ++ rest) p ∙ append_assoc text (byte_text (get_or bytes i 0)) rest ∙ ap (λ t. text ++ flat_map byte_text t) (sym (drop_more bytes i 0 lt)) ∙ e
-
-pub bytes_ended : (bytes : List ℕ) (i : ℕ) (text all : List ℕ)
-    → length bytes ≤ i → text ++ flat_map byte_text (drop i bytes) ≡ all → text ≡ all
-bytes_ended bytes i text all le e = sym (append-nil text) ∙ ap (λ t. text ++ flat_map byte_text t) (sym (drop_all i bytes le)) ∙ e
 
 -- ---- clocks
 

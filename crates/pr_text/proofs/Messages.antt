@@ -17,7 +17,7 @@ use Rattle.pr_story.specs.declared.reply.Reply.{Reply}
 use Rattle.pr_story.specs.declared.reply.Reply.TheVariants as replies
 use Rattle.pr_story.specs.declared.found.Found.{Found}
 use Rattle.pr_story.specs.declared.found.Found.TheVariants as founds
-use Rattle.pr_text.specs.Labels.{AreLabels}
+use Rattle.pr_script.specs.Labels.{AreLabels}
 use Rattle.pr_text.specs.Lines.{found_fields, kind_fields, reply_fields, span_fields, stamp_fields}
 use Rattle.pr_text.specs.Numbers.{HasFound, HasKind, HasMark, HasPair, HasPrev, HasReply, HasRow, HasStamp, HasVector, HasWrite}
 use Rattle.pr_text.specs.Texts.{prev_text, stamp_text, vector_text}

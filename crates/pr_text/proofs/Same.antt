@@ -11,10 +11,10 @@ use Rattle.std.proofs.lemmas.Grind.{same_number_lists}
 use Rattle.pr_stamps.specs.Point.{Point, IsStamp}
 use Rattle.pr_vectors.specs.Vector.{clock_of, IsVector}
 use Rattle.pr_script.specs.declared.decl.Decl.{Decl}
-use Rattle.pr_script.specs.Labels.{is_label}
-use Rattle.pr_text.specs.declared.kind.Kind.{Kind}
-use Rattle.pr_text.specs.declared.kind.Kind.TheVariants as kinds
-use Rattle.pr_text.specs.Labels.{AreDistinct, AreLabels, label, labels_of}
+use Rattle.pr_script.specs.declared.kind.Kind.{Kind}
+use Rattle.pr_script.specs.declared.kind.Kind.TheVariants as kinds
+use Rattle.pr_script.specs.Labels.{AreDistinct, AreLabels, is_label, labels_of}
+use Rattle.pr_script.specs.Printing.{label_text as label}
 use Rattle.pr_text.specs.Texts.{clocks, prev_text, stamp_text, vector_text}
 use Rattle.pr_text.proofs.Cut.{IsOf, cut_at, is_not, is_plain, of_all, of_append, both_same, heads_same}
 use Rattle.pr_text.proofs.Items.{AllOf, AreItems, IsItem, listed_same, not_empty, not_hyphen, nothing_there, of_listed}
@@ -56,6 +56,7 @@ same_place (l ∷ ls) d (suc m) zero p q e = absurd (differs l ls d.0 m (omega (
 same_place (l ∷ ls) d (suc m) (suc n) p q e = ap suc (same_place ls d.1 m n (omega (arith, p)) (omega (arith, q)) e)
 
 pub label_same : (ds : List Decl) → AreLabels ds → (k : Kind) (m n : ℕ) → m < length (labels_of k ds) → n < length (labels_of k ds) → label k ds m ≡ label k ds n → m ≡ n
+unfolding label
 label_same ds a k m n p q e = same_place (labels_of k ds) (a.distinct k) m n p q e
 
 label_at : (ls : List (List ℕ)) → AllByRecursion (λ l. is_label l ≡ true) ls → (n : ℕ) → n < length ls → is_label (get_or ls n []) ≡ true
@@ -64,6 +65,7 @@ label_at (l ∷ ls) a zero p = a.0
 label_at (l ∷ ls) a (suc n) p = label_at ls a.1 n (omega (arith, p))
 
 pub is_label_of : (ds : List Decl) → AreLabels ds → (k : Kind) (n : ℕ) → n < length (labels_of k ds) → is_label (label k ds n) ≡ true
+unfolding label
 is_label_of ds a k n p = label_at (labels_of k ds) (a.each k) n p
 
 -- ---- numbers
@@ -203,7 +205,7 @@ IsDeclaredVector ds v = IsVector v × ((n : ℕ) → length (labels_of kinds.Nod
 small_clocks : (ds : List Decl) → AreLabels ds → (v : List ℕ) → IsDeclaredVector ds v → (n : ℕ) → clock_of v n < 2 ^ 64
 small_clocks ds a v d n = elim (cases_lt n 32) [
   | inl k ↦ omega (arith, d.0.most n k)
-  | inr k ↦ let z = d.1 n (omega (arith, a.nodes, k)) in omega (arith, z)
+  | inr k ↦ let z = d.1 n (omega (arith, a.few kinds.Node, k)) in omega (arith, z)
 ]
 
 AllItems : (ls : List (List ℕ)) (w : ℕ) (v : List ℕ) → AllLabels ls → ((n : ℕ) → clock_of v n < 2 ^ 64) → AreItems 44 (clocks ls w v)

@@ -16,7 +16,8 @@ use Rattle.pr_sets.specs.Spans.{IsSet}
 use Rattle.pr_sets.specs.Text.{more_text, set_read, set_text}
 use Rattle.pr_sets.specs.declared.fault.SetFault.{SetFault}
 use Rattle.pr_sets.proofs.Texts.{reads_back}
-use Rattle.pr_text.specs.Texts.{byte_text, hex_digit, is_bare, quoted}
+use Rattle.pr_script.specs.Printing.{hex_digit, quoted, spell}
+use Rattle.pr_script.specs.Texts.{is_bare}
 use Rattle.pr_text.proofs.Cut.{IsOf, Lacks, Quoted, is_not, is_plain, of_append, both_same, heads_same, tails_same}
 
 -- ---- bytes
@@ -79,22 +80,23 @@ one_byte false false b c r s p q f g e =
     let l = both_same (hex_digit (b % 16)) (hex_digit (c % 16)) r s h.1 in
     (byte_same b c p q h.0 l.0, l.1)
 
-texts_same : (bs cs r s : List ℕ) → AreBytes bs → AreBytes cs → flat_map byte_text bs ++ 34 ∷ r ≡ flat_map byte_text cs ++ 34 ∷ s → bs ≡ cs
+texts_same : (bs cs r s : List ℕ) → AreBytes bs → AreBytes cs → flat_map spell bs ++ 34 ∷ r ≡ flat_map spell cs ++ 34 ∷ s → bs ≡ cs
+unfolding spell
 texts_same [] [] r s p q e = refl
 texts_same [] (c ∷ cs) r s p q e =
-    absurd (begins (is_bare c) c r (flat_map byte_text cs ++ 34 ∷ s) refl
-    (e ∙ ap (λ t. t ++ 34 ∷ s) (flat_map-cons byte_text c cs) ∙ append_assoc (byte_text c) (flat_map byte_text cs) (34 ∷ s)))
+    absurd (begins (is_bare c) c r (flat_map spell cs ++ 34 ∷ s) refl
+    (e ∙ ap (λ t. t ++ 34 ∷ s) (flat_map-cons spell c cs) ∙ append_assoc (spell c) (flat_map spell cs) (34 ∷ s)))
 texts_same (b ∷ bs) [] r s p q e =
-    absurd (begins (is_bare b) b s (flat_map byte_text bs ++ 34 ∷ r) refl
-    (sym e ∙ ap (λ t. t ++ 34 ∷ r) (flat_map-cons byte_text b bs) ∙ append_assoc (byte_text b) (flat_map byte_text bs) (34 ∷ r)))
+    absurd (begins (is_bare b) b s (flat_map spell bs ++ 34 ∷ r) refl
+    (sym e ∙ ap (λ t. t ++ 34 ∷ r) (flat_map-cons spell b bs) ∙ append_assoc (spell b) (flat_map spell bs) (34 ∷ r)))
 texts_same (b ∷ bs) (c ∷ cs) r s p q e =
-    let f = one_byte (is_bare b) (is_bare c) b c (flat_map byte_text bs ++ 34 ∷ r) (flat_map byte_text cs ++ 34 ∷ s) p.0 q.0 refl refl
-    (sym (ap (λ t. t ++ 34 ∷ r) (flat_map-cons byte_text b bs) ∙ append_assoc (byte_text b) (flat_map byte_text bs) (34 ∷ r))
-    ∙ e ∙ ap (λ t. t ++ 34 ∷ s) (flat_map-cons byte_text c cs) ∙ append_assoc (byte_text c) (flat_map byte_text cs) (34 ∷ s)) in
+    let f = one_byte (is_bare b) (is_bare c) b c (flat_map spell bs ++ 34 ∷ r) (flat_map spell cs ++ 34 ∷ s) p.0 q.0 refl refl
+    (sym (ap (λ t. t ++ 34 ∷ r) (flat_map-cons spell b bs) ∙ append_assoc (spell b) (flat_map spell bs) (34 ∷ r))
+    ∙ e ∙ ap (λ t. t ++ 34 ∷ s) (flat_map-cons spell c cs) ∙ append_assoc (spell c) (flat_map spell cs) (34 ∷ s)) in
     ap (λ k. k ∷ bs) f.0 ∙ ap (λ k. c ∷ k) (texts_same bs cs r s p.1 q.1 f.1)
 
 pub quoted_same : (bs cs : List ℕ) → AreBytes bs → AreBytes cs → quoted bs ≡ quoted cs → bs ≡ cs
-quoted_same bs cs p q e = texts_same bs cs [] [] p q (tails_same 34 34 (flat_map byte_text bs ++ 34 ∷ []) (flat_map byte_text cs ++ 34 ∷ []) e)
+quoted_same bs cs p q e = texts_same bs cs [] [] p q (tails_same 34 34 (flat_map spell bs ++ 34 ∷ []) (flat_map spell cs ++ 34 ∷ []) e)
 
 -- no quote and no line end stands within
 digit_no_stop : (s m : ℕ) → s < 48 → is_not s (hex_digit m) ≡ true
@@ -110,13 +112,14 @@ byte_lacks : (s : ℕ) → s < 48 → ((b : ℕ) → is_bare b ≡ true → is_n
 byte_lacks s l f e true b p = (f b p, tt)
 byte_lacks s l f e false b p = (e, (digit_no_stop s (b / 16) l, (digit_no_stop s (b % 16) l, tt)))
 
-bytes_lack : (s : ℕ) → s < 48 → ((b : ℕ) → is_bare b ≡ true → is_not s b ≡ true) → is_not s 92 ≡ true → (bs : List ℕ) → Lacks s (flat_map byte_text bs)
+bytes_lack : (s : ℕ) → s < 48 → ((b : ℕ) → is_bare b ≡ true → is_not s b ≡ true) → is_not s 92 ≡ true → (bs : List ℕ) → Lacks s (flat_map spell bs)
+unfolding spell
 bytes_lack s l f e [] = tt
 bytes_lack s l f e (b ∷ bs) =
-    subst (Lacks s) (sym (flat_map-cons byte_text b bs)) (of_append (is_not s) (byte_text b) (flat_map byte_text bs) (byte_lacks s l f e (is_bare b) b refl) (bytes_lack s l f e bs))
+    subst (Lacks s) (sym (flat_map-cons spell b bs)) (of_append (is_not s) (spell b) (flat_map spell bs) (byte_lacks s l f e (is_bare b) b refl) (bytes_lack s l f e bs))
 
 pub is_quoted : (bs : List ℕ) → Quoted (quoted bs)
-is_quoted bs = (flat_map byte_text bs, refl, bytes_lack 34 (omega arith) bare_no_quote refl bs, bytes_lack 10 (omega arith) bare_no_end refl bs)
+is_quoted bs = (flat_map spell bs, refl, bytes_lack 34 (omega arith) bare_no_quote refl bs, bytes_lack 10 (omega arith) bare_no_end refl bs)
 
 -- ---- names and sets
 

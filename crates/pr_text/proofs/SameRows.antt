@@ -9,7 +9,7 @@ use Rattle.pr_names.specs.Name.{IsName}
 use Rattle.pr_names.specs.Byte.{allowed}
 use Rattle.pr_inval.specs.declared.row.Row.{Row}
 use Rattle.pr_script.specs.declared.decl.Decl.{Decl}
-use Rattle.pr_text.specs.Labels.{AreLabels}
+use Rattle.pr_script.specs.Labels.{AreLabels}
 use Rattle.pr_text.specs.Texts.{joined, mark_text, pair_text, pairs_text, prev_text, row_text, rows_text, stamp_text}
 use Rattle.pr_text.proofs.Cut.{IsOf, cut, cut_at, is_not, is_plain, of_append, both_same}
 use Rattle.pr_text.proofs.Items.{AllOf, AreItems, IsItem, joined_same, listed_same, not_empty, not_hyphen, nothing_here, nothing_there, of_joined, of_listed}

@@ -20,12 +20,13 @@ use Rattle.pr_story.specs.declared.event.Event.{Event}
 use Rattle.pr_story.specs.declared.event.Event.TheVariants.{Wrote, Attached, Sent, Idle, Stale, Accepted, Gapped, Missing, Down, Answered, Behind, Moved, Cut, Dropped, Conflicts, State}
 use Rattle.pr_story.specs.declared.found.Found.{Found}
 use Rattle.pr_story.specs.declared.reply.Reply.{Reply}
-use Rattle.pr_text.specs.Labels.{AreLabels, label}
+use Rattle.pr_script.specs.Labels.{AreLabels}
+use Rattle.pr_script.specs.Printing.{label_text as label}
 use Rattle.pr_text.specs.Lines.{body_fields, cause_text, fields_of, reply_fields, stamp_fields, word_of}
 use Rattle.pr_text.specs.Numbers.{Has, HasEvent, HasKind, HasVector}
 use Rattle.pr_text.specs.Texts.{vector_text}
-use Rattle.pr_text.specs.declared.kind.Kind.TheVariants as kinds
-use Rattle.pr_text.specs.declared.kind.Kind.{Kind as What}
+use Rattle.pr_script.specs.declared.kind.Kind.TheVariants as kinds
+use Rattle.pr_script.specs.declared.kind.Kind.{Kind as What}
 use Rattle.pr_text.proofs.Cut.{Plain, is_plain}
 use Rattle.pr_text.proofs.Fields.{AllClosed, Closed, closed_append, word}
 use Rattle.pr_text.proofs.Messages.{all_both, at_0, at_1, at_2, at_3, at_4, at_5, at_6, at_7, later, found_closed, found_same, kind_closed, kind_same, name_closed, other_word, reply_closed, reply_same, same_vector, vector_closed, write_closed, write_same}

@@ -14,9 +14,9 @@ use Rattle.pr_story.specs.declared.reply.Reply.{Reply}
 use Rattle.pr_story.specs.declared.reply.Reply.TheVariants as replies
 use Rattle.pr_story.specs.declared.found.Found.{Found}
 use Rattle.pr_story.specs.declared.found.Found.TheVariants as founds
-use Rattle.pr_text.specs.declared.kind.Kind.TheVariants as kinds
-use Rattle.pr_text.specs.Labels.{label}
-use Rattle.pr_text.specs.Texts.{pairs_text, prev_text, quoted, rows_text, stamp_text, vector_text, more}
+use Rattle.pr_script.specs.declared.kind.Kind.TheVariants as kinds
+use Rattle.pr_script.specs.Printing.{label_text as label, quoted}
+use Rattle.pr_text.specs.Texts.{pairs_text, prev_text, rows_text, stamp_text, vector_text, more}
 
 -- the line's first word, which tells the kind of event
 abbrev pub word_of : Event → List ℕ

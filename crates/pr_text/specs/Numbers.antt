@@ -15,9 +15,9 @@ use Rattle.pr_story.specs.declared.reply.Reply.{Reply}
 use Rattle.pr_story.specs.declared.reply.Reply.TheVariants as replies
 use Rattle.pr_story.specs.declared.found.Found.{Found}
 use Rattle.pr_story.specs.declared.found.Found.TheVariants as founds
-use Rattle.pr_text.specs.declared.kind.Kind.{Kind as What}
-use Rattle.pr_text.specs.declared.kind.Kind.TheVariants as kinds
-use Rattle.pr_text.specs.Labels.{labels_of}
+use Rattle.pr_script.specs.declared.kind.Kind.{Kind as What}
+use Rattle.pr_script.specs.declared.kind.Kind.TheVariants as kinds
+use Rattle.pr_script.specs.Labels.{labels_of}
 
 module _ (ds : List Decl) where
   -- something of this kind has the number

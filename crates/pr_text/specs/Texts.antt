@@ -1,13 +1,13 @@
 -- The texts of a line's fields.
-use Rattle.std.specs.Prelude.{ℕ, ◌+◌, ◌/◌, ◌%◌, List, [], ◌∷◌, ◌++◌, map, Bool, Option, None, Some, decimal, not, ◌&&◌, ◌==◌, nat_le, nat_lt, nat_eq, cond}
-use Rattle.std.specs.List.{flat_map}
+use Rattle.std.specs.Prelude.{ℕ, ◌+◌, List, [], ◌∷◌, ◌++◌, map, Option, None, Some, decimal, nat_eq, cond}
 use Rattle.pr_stamps.specs.Point.{Point}
 use Rattle.pr_stamps.specs.declared.mark.Mark.{Mark}
 use Rattle.pr_vectors.specs.Vector.{clock_of}
 use Rattle.pr_inval.specs.declared.row.Row.{Row}
 use Rattle.pr_script.specs.declared.decl.Decl.{Decl}
-use Rattle.pr_text.specs.declared.kind.Kind.TheVariants as kinds
-use Rattle.pr_text.specs.Labels.{label, labels_of}
+use Rattle.pr_script.specs.declared.kind.Kind.TheVariants as kinds
+use Rattle.pr_script.specs.Labels.{labels_of}
+use Rattle.pr_script.specs.Printing.{label_text as label}
 
 -- ---- lists
 
@@ -47,22 +47,6 @@ clocks (l ∷ ls) w v = cond (nat_eq (clock_of v w) 0) (clocks ls (w + 1) v) ((l
 
 abbrev pub vector_text : List Decl → List ℕ → List ℕ
 vector_text ds v = listed (clocks (labels_of kinds.Node ds) 0 v)
-
--- ---- quoted texts
-
--- a byte that stands for itself: neither a quote nor a backslash
-abbrev pub is_bare : ℕ → Bool
-is_bare b = nat_le 32 b && nat_le b 126 && not (b == 34) && not (b == 92)
-
--- the digit of a value below 16
-abbrev pub hex_digit : ℕ → ℕ
-hex_digit n = cond (nat_lt n 10) (48 + n) (87 + n)
-
-abbrev pub byte_text : ℕ → List ℕ
-byte_text b = cond (is_bare b) (b ∷ []) (92 ∷ hex_digit (b / 16) ∷ hex_digit (b % 16) ∷ [])
-
-abbrev pub quoted : List ℕ → List ℕ
-quoted bytes = 34 ∷ (flat_map byte_text bytes ++ 34 ∷ [])
 
 -- ---- rows and pairs
 

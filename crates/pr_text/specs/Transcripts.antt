@@ -6,8 +6,8 @@ use Rattle.pr_script.specs.declared.decl.Decl.TheVariants as decls
 use Rattle.pr_story.specs.History.{NodeEntry, Plan, Stream}
 use Rattle.pr_story.specs.Lawful.{Valid}
 use Rattle.pr_story.specs.Lines.{without_callers}
-use Rattle.pr_text.specs.declared.kind.Kind.TheVariants as kinds
-use Rattle.pr_text.specs.Labels.{AreLabels, is_of}
+use Rattle.pr_script.specs.declared.kind.Kind.TheVariants as kinds
+use Rattle.pr_script.specs.Labels.{AreLabels, is_kind as is_of}
 use Rattle.pr_text.specs.Lines.{line_text}
 use Rattle.pr_text.specs.Numbers.{Has, HasEvent}
 

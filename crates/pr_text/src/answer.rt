@@ -4,9 +4,8 @@ ghost use Rattle.pr_text.specs.Texts.{more};
 ghost use Rattle.std.specs.Prelude.{◌≡◌, ◌++◌, OnOk};
 
 use crate::field::{push_stamp_field, push_word};
-use crate::quoted::push_quoted;
 use crate::rows::push_pairs;
-use pr_script::{Bytes, Decl};
+use pr_script::{Bytes, Decl, print_text};
 use pr_stamps::NoMemory;
 use pr_story::{Found, Reply};
 
@@ -19,7 +18,7 @@ pub fn push_reply(decls: &[Decl], reply: &Reply, text: &mut Bytes) -> Result<(),
         Reply::Value { stamp, bytes } => {
             push_word(b"value", text)?;
             push_stamp_field(decls, stamp, text)?;
-            push_quoted(bytes.as_slice(), text)
+            print_text(text, bytes.as_slice())
         }
         Reply::Imprecise { untold } => {
             push_word(b"imprecise", text)?;

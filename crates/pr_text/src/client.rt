@@ -5,12 +5,10 @@ ghost use Rattle.std.specs.Prelude.{◌≡◌, ◌++◌, OnOk, codes, cond};
 
 use crate::answer::push_reply;
 use crate::field::{push_at, push_name, push_over};
-use crate::kind::Kind;
 use crate::label::{push_about, push_label};
-use crate::quoted::push_quoted;
 use pr_inval::WriteRec;
 use pr_names::Name;
-use pr_script::{Bytes, Decl};
+use pr_script::{Bytes, Decl, Kind, print_text};
 use pr_stamps::NoMemory;
 use pr_story::Reply;
 use pr_vectors::Vector;
@@ -29,7 +27,7 @@ pub fn push_wrote(
     push_about(write_word(write.gone), decls, Kind::Client, client, text)?;
     push_name(&write.name, text)?;
     if !write.gone {
-        push_quoted(body, text)?;
+        print_text(text, body)?;
     }
     push_over(decls, write, text)?;
     push_at(b"after", decls, after, text)

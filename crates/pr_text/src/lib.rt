@@ -3,15 +3,14 @@
 
 mod answer;
 mod client;
+mod ending;
 mod event;
 mod field;
 mod head;
-mod kind;
 mod label;
 mod law;
 mod message;
 mod node;
-mod quoted;
 mod rows;
 mod stamp;
 mod stream;
@@ -19,6 +18,7 @@ mod stream;
 mod tests;
 mod vector;
 
+pub use ending::{bad, error, lied, ok, unmet};
 pub use event::line;
 pub use head::heads;
 pub use law::lines_tell_the_history;

@@ -8,10 +8,9 @@ ghost use Rattle.std.specs.Prelude.{◌≡◌, ◌++◌, OnOk, codes, cond};
 use crate::field::{
     push_at, push_name, push_over, push_set, push_span, push_stamp_field, push_word,
 };
-use crate::quoted::push_quoted;
 use crate::rows::push_rows;
 use pr_inval::{Kind, Row, WriteRec};
-use pr_script::{Bytes, Decl};
+use pr_script::{Bytes, Decl, print_text};
 use pr_sets::NameSet;
 use pr_stamps::NoMemory;
 use pr_vectors::Vector;
@@ -33,7 +32,7 @@ pub fn push_kind(decls: &[Decl], kind: &Kind, text: &mut Bytes) -> Result<(), No
             push_word(b"body", text)?;
             push_name(name, text)?;
             push_stamp_field(decls, stamp, text)?;
-            push_quoted(bytes.as_slice(), text)
+            print_text(text, bytes.as_slice())
         }
     }
 }

@@ -6,11 +6,10 @@ ghost use Rattle.std.specs.Prelude.{◌≡◌, ◌++◌, OnOk, map};
 
 use crate::answer::push_found;
 use crate::field::{push_at, push_name, push_word};
-use crate::kind::Kind;
 use crate::label::push_about;
 use crate::vector::push_vector;
 use pr_names::Name;
-use pr_script::{Bytes, Decl};
+use pr_script::{Bytes, Decl, Kind};
 use pr_stamps::NoMemory;
 use pr_story::Found;
 use pr_vectors::Vector;

@@ -2,10 +2,8 @@
 ghost use Rattle.pr_text.specs.Texts.{prev_text, stamp_text};
 ghost use Rattle.std.specs.Prelude.{◌≡◌, ◌++◌, ◌∷◌, OnOk, decimal};
 
-use crate::kind::Kind;
-use crate::label::label;
 use itoa::Buffer;
-use pr_script::{Bytes, Decl};
+use pr_script::{Bytes, Decl, Kind, label_at};
 use pr_stamps::{NoMemory, Stamp};
 
 /// Adds a space and the digits of the number.
@@ -29,7 +27,7 @@ pub fn push_stamp(decls: &[Decl], stamp: &Stamp, text: &mut Bytes) -> Result<(),
 {
     push_digits(stamp.clock(), text)?;
     text.push(b'@')?;
-    text.extend(label(decls, Kind::Node, stamp.node()))
+    text.extend(label_at(decls, Kind::Node, stamp.node()))
 }
 
 /// Adds the stamp, or a hyphen for none.

@@ -1,17 +1,16 @@
 // The events of streams.
-ghost use Rattle.pr_text.specs.Labels.{label};
+ghost use Rattle.pr_script.specs.Printing.{label_text};
 ghost use Rattle.pr_text.specs.Lines.{cause_text, sentence};
-ghost use Rattle.pr_text.specs.declared.kind.Kind.TheVariants as kinds;
+ghost use Rattle.pr_script.specs.declared.kind.Kind.TheVariants as kinds;
 ghost use Rattle.pr_story.specs.declared.event.Event.TheVariants as events;
 ghost use Rattle.std.specs.Prelude.{◌≡◌, ◌++◌, ◌∷◌, OnOk, decimal};
 
 use crate::field::{push_at, push_word};
-use crate::kind::Kind;
 use crate::label::push_about;
 use crate::message::{push_kind, start_of};
 use crate::stamp::push_number;
 use pr_inval::Msg;
-use pr_script::{Bytes, Decl};
+use pr_script::{Bytes, Decl, Kind};
 use pr_stamps::NoMemory;
 use pr_story::Cause;
 use pr_vectors::Vector;
@@ -112,14 +111,14 @@ pub fn push_down(
 
 // Adds the first word and the stream.
 fn push_stream(word: &[u8], decls: &[Decl], stream: u32, text: &mut Bytes) -> Result<(), NoMemory>
-    ensures { OnOk result (text.new ≡ text.old ++ (word.now ++ 32 ∷ label kinds.Stream decls.now stream)) }
+    ensures { OnOk result (text.new ≡ text.old ++ (word.now ++ 32 ∷ label_text kinds.Stream decls.now stream)) }
 {
     push_about(word, decls, Kind::Stream, stream, text)
 }
 
 // Adds the first word, the message's stream and its number.
 fn push_message(word: &[u8], decls: &[Decl], msg: &Msg, text: &mut Bytes) -> Result<(), NoMemory>
-    ensures { OnOk result (text.new ≡ text.old ++ (word.now ++ 32 ∷ (label kinds.Stream decls.now msg.now.stream ++ 32 ∷ decimal msg.now.number))) }
+    ensures { OnOk result (text.new ≡ text.old ++ (word.now ++ 32 ∷ (label_text kinds.Stream decls.now msg.now.stream ++ 32 ∷ decimal msg.now.number))) }
 {
     push_stream(word, decls, msg.stream, text)?;
     push_number(msg.number, text)

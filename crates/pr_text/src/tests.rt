@@ -1,4 +1,4 @@
-use crate::{heads, line};
+use crate::{bad, error, heads, lied, line, ok, unmet};
 use pr_inval::{Kind, Msg, Row, WriteRec};
 use pr_names::Name;
 use pr_script::{Bytes, Decls, read};
@@ -395,5 +395,31 @@ fn head_lines(rt: HostRuntime) -> Result<(), Fail> {
     let mut out = Seq::new(rt.alloc());
     heads(rt.alloc(), &decls, &mut out).ok().ok_or("no memory")?;
     assert_eq!(rt; out.as_slice(), HEADS);
+    Ok(())
+}
+
+fn endings(alloc: Global, decls: &Decls) -> Option<Bytes> {
+    let mut out = Seq::new(alloc);
+    ok(42, &mut out).ok()?;
+    unmet(7, &mut out).ok()?;
+    bad(3, 12, &mut out).ok()?;
+    error(b"too large", &mut out).ok()?;
+    lied(decls, 1, 2, b"\x02\xff", b"\x00", &mut out).ok()?;
+    Some(out)
+}
+
+const ENDINGS: &[u8] = b"\
+ok 42\n\
+unmet 7\n\
+error line 3 why 12\n\
+error too large\n\
+error lied t 2 sent 02ff got 00\n\
+";
+
+#[test]
+fn last_lines(rt: HostRuntime) -> Result<(), Fail> {
+    let decls = decls(rt.alloc())?;
+    let out = endings(rt.alloc(), &decls).ok_or("no memory")?;
+    assert_eq!(rt; out.as_slice(), ENDINGS);
     Ok(())
 }

@@ -3,22 +3,21 @@ ghost use Rattle.pr_vectors.specs.Vector.{clock_of};
 ghost use Rattle.pr_text.specs.Texts.{vector_text};
 ghost use Rattle.std.specs.Prelude.{◌≡◌, ◌++◌, ◌∷◌, [], OnOk, decimal, cond};
 
-use crate::kind::Kind;
-use crate::label::{is_of, label_of};
 use crate::stamp::push_digits;
-use pr_script::{Bytes, Decl};
+use pr_script::{Bytes, Decl, Kind, is_kind, label_of};
 use pr_stamps::NoMemory;
 use pr_vectors::Vector;
 
 /// Adds LABEL:CLOCK for each node that has a clock, joined by commas, or a hyphen for the zero vector, in one pass over
 /// the declarations.
+#[tactic(auto, unfolding(pr_script::specs::Labels::labels_of))]
 pub fn push_vector(decls: &[Decl], vector: &Vector, text: &mut Bytes) -> Result<(), NoMemory>
     ensures { OnOk result (text.new ≡ text.old ++ vector_text decls.now vector.now) }
 {
     let mut node = 0usize;
     let mut some = false;
     for decl in decls {
-        if is_of(decl, Kind::Node) {
+        if is_kind(Kind::Node, decl) {
             let clock = clock_at(vector, node);
             if clock > 0 {
                 push_clock(some, label_of(decl), clock, text)?;

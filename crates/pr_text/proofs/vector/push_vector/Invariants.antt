@@ -1,7 +1,7 @@
 use Rattle.std.proofs.Common.{◌≡◌, ◌++◌, ◌≤◌, drop}
-use Rattle.pr_text.specs.Labels.{labels_of}
+use Rattle.pr_script.specs.Labels.{labels_of}
 use Rattle.pr_text.specs.Texts.{clocks, vector_text}
-use Rattle.pr_text.specs.declared.kind.Kind.TheVariants as kinds
+use Rattle.pr_script.specs.declared.kind.Kind.TheVariants as kinds
 use Rattle.pr_text.proofs.Loops.{list_behind}
 use Rattle.pr_text.proofs.vector.push_vector.Given as goal
 

@@ -1,0 +1,8 @@
+use Rattle.std.proofs.Common.{◌≡◌, ◌++◌, drop}
+use Rattle.std.specs.List.{flat_map}
+use Rattle.pr_text.specs.Endings.{hex_byte}
+use Rattle.pr_text.proofs.ending.push_hex.Given as goal
+
+-- what is written, then what is still to be written, is all
+abbrev pub invariant-loop-byte : goal.invariant-loop-byte
+invariant-loop-byte l = l.out ++ flat_map hex_byte (drop l.byte-index l.fn.bytes) ≡ l.fn.out ++ flat_map hex_byte l.fn.bytes
