@@ -1,0 +1,9 @@
+pub mod Growing
+pub mod Fronts
+pub mod Decoding
+pub mod OnTheWay
+pub mod Turns
+pub mod Scripted
+pub mod Answering
+pub mod Whole
+pub mod Keeping

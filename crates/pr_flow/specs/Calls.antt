@@ -1,0 +1,140 @@
+-- What the calls on a side are given, and which entry each makes.
+use Rattle.std.specs.Prelude.{◌≡◌, ◌≤◌, ℕ, List, [], ◌∷◌, ◌++◌, Option, Some, None, Result, Ok, Err}
+use Rattle.pr_stamps.specs.Point.{Point}
+use Rattle.pr_inval.specs.declared.msg.Msg.{Msg}
+use Rattle.pr_inval.specs.declared.node_fault.NodeFault.{NodeFault}
+use Rattle.pr_inval.specs.declared.node_fault.NodeFault.TheVariants as faults
+use Rattle.pr_inval.specs.declared.step.Step.{Step}
+use Rattle.pr_inval.specs.declared.step.Step.TheVariants as steps
+use Rattle.pr_inval.specs.declared.taken.Taken.{Taken}
+use Rattle.pr_inval.specs.declared.taken.Taken.TheVariants as takens
+use Rattle.pr_inval.specs.Standing.{HasHeard, IsSameSession, SessionMeaning}
+use Rattle.pr_story.specs.declared.cause.Cause.{Cause}
+use Rattle.pr_story.specs.declared.entry.Entry.{Entry}
+use Rattle.pr_story.specs.declared.event.Event.{Event}
+use Rattle.pr_story.specs.declared.event.Event.TheVariants.{Sent, Idle, Stale, Accepted, Gapped, Down}
+use Rattle.pr_story.specs.Commands.{IsNoCheckpoint}
+use Rattle.pr_story.specs.Turns.{count_after, position_after, sent_after}
+use Rattle.pr_wire.specs.Messages.{IsMessage}
+
+-- a call: a turn with the session before and after it, a message to accept, or a down with its cause and the session
+pub data Call : Type 0 where
+  Turning : SessionMeaning → SessionMeaning → Call
+  Accepting : Msg → Call
+  Ending : Cause → SessionMeaning → SessionMeaning → Call
+
+-- the place of a Worn, or none
+abbrev pub place_of : NodeFault → Option ℕ
+place_of faults.NoMemory = None
+place_of (faults.Worn at) = Some at
+
+-- that of the answer
+abbrev pub worn_of : {X : Type 0} → Result X NodeFault → Option ℕ
+worn_of (Ok x) = None
+worn_of (Err fault) = place_of fault
+
+abbrev pub entry_of : ℕ → ℕ → Event → Entry
+entry_of time caller event = record { time = time; caller = caller; event = event }
+
+-- the session after an entry that a call with it made
+pub record HasStepped (a b : SessionMeaning) (e : Entry) : Type 0 where
+  pub stream : b.stream ≡ a.stream
+  pub attached : b.attached ≡ a.attached
+  pub names : b.standing.names ≡ a.standing.names
+  pub bodies : b.standing.bodies ≡ a.standing.bodies
+  pub position : b.standing.position ≡ position_after e.event a.stream a.standing.position
+  pub number : b.standing.number ≡ count_after e.event a.stream a.standing.number
+  pub time : b.standing.time ≡ e.time
+  pub sent : (o : List ℕ) (t : Point) → b.standing.sent o t ≡ sent_after e.event a.stream o t (a.standing.sent o t)
+
+-- what stays of a session whatever a flow does
+pub record IsKept (a b : SessionMeaning) : Type 0 where
+  pub stream : b.stream ≡ a.stream
+  pub attached : b.attached ≡ a.attached
+  pub names : b.standing.names ≡ a.standing.names
+  pub bodies : b.standing.bodies ≡ a.standing.bodies
+
+-- a message that is sent is one of the grammar, of this stream, and no checkpoint
+pub record IsSendable (s : ℕ) (m : Msg) : Type 0 where
+  pub message : IsMessage m
+  pub stream : m.stream ≡ s
+  pub kind : IsNoCheckpoint m.kind
+
+abbrev pub IsStep : ℕ → Step → Type 0
+IsStep s (steps.Sent m) = IsSendable s m
+IsStep s _ = Unit {0}
+
+-- the event that a step says
+abbrev pub event_of : ℕ → Step → Event
+event_of s (steps.Sent m) = Sent m
+event_of s steps.Idle = Idle s
+event_of s (steps.Stale cut) = Stale s cut
+
+-- a time of an event
+pub record IsTime (time : ℕ) : Type 0 where
+  pub least : 1 ≤ time
+  pub most : time ≤ 4611686018427387903
+
+-- ---- what the calls make
+
+abbrev pub TurnMakes : List Entry → List Entry → SessionMeaning → SessionMeaning → Result Step NodeFault → Type 0
+TurnMakes before now a b (Ok answer) =
+    IsStep a.stream answer
+    × ((time : ℕ) × (caller : ℕ) × (now ≡ before ++ entry_of time caller (event_of a.stream answer) ∷ [])
+    × HasStepped a b (entry_of time caller (event_of a.stream answer)))
+TurnMakes before now a b (Err fault) = (now ≡ before) × IsSameSession a b
+
+abbrev pub AcceptMakes : List Entry → List Entry → Msg → Result Taken NodeFault → Type 0
+AcceptMakes before now m (Ok (takens.Accepted time)) =
+    IsTime time × ((caller : ℕ) × (at : List ℕ) × (now ≡ before ++ entry_of time caller (Accepted m at) ∷ []))
+AcceptMakes before now m (Ok (takens.Gap needs has time)) =
+    IsTime time × ((caller : ℕ) × (now ≡ before ++ entry_of time caller (Gapped m has) ∷ []))
+AcceptMakes before now m (Err fault) = now ≡ before
+
+abbrev pub DownMakes : List Entry → List Entry → SessionMeaning → SessionMeaning → Cause → Result (Unit {0}) NodeFault
+    → Type 0
+DownMakes before now a b cause (Ok done) =
+    (time : ℕ) × (caller : ℕ) × (now ≡ before ++ entry_of time caller (Down a.stream cause) ∷ [])
+    × HasStepped a b (entry_of time caller (Down a.stream cause))
+DownMakes before now a b cause (Err fault) = (now ≡ before) × IsSameSession a b
+
+-- ---- calls on a side, each from one moment of it and of the session to the next
+
+module _ {S : Type 0} (made_by : S → List Entry) (act_of : S → Call → Option ℕ → S → Type 0) where
+  -- a turn made the entry
+  pub record HasTurned (x : S) (a : SessionMeaning) (e : Entry) (y : S) (b : SessionMeaning) : Type 0 where
+    pub act : act_of x (Turning a b) None y
+    pub made : made_by y ≡ made_by x ++ e ∷ []
+    pub session : HasStepped a b e
+
+  -- the message was taken, which made the entry, and the session heard its time
+  pub record HasTaken (x : S) (a : SessionMeaning) (m : Msg) (e : Entry) (y : S) (b : SessionMeaning) : Type 0 where
+    pub act : act_of x (Accepting m) None y
+    pub made : made_by y ≡ made_by x ++ e ∷ []
+    pub session : HasHeard a b e.time
+
+  -- it was noted that the flow went down, which made the entry
+  pub record HasEnded (x : S) (a : SessionMeaning) (cause : Cause) (e : Entry)
+      (y : S) (b : SessionMeaning) : Type 0 where
+    pub act : act_of x (Ending cause a b) None y
+    pub made : made_by y ≡ made_by x ++ e ∷ []
+    pub session : HasStepped a b e
+
+  -- a call was answered a fault
+
+  pub record HasNotTurned (x : S) (a : SessionMeaning) (fault : NodeFault) (y : S) (b : SessionMeaning) : Type 0 where
+    pub act : act_of x (Turning a b) (place_of fault) y
+    pub made : made_by y ≡ made_by x
+    pub session : IsSameSession a b
+
+  pub record HasNotTaken (x : S) (a : SessionMeaning) (m : Msg) (fault : NodeFault)
+      (y : S) (b : SessionMeaning) : Type 0 where
+    pub act : act_of x (Accepting m) (place_of fault) y
+    pub made : made_by y ≡ made_by x
+    pub session : b ≡ a
+
+  pub record HasNotEnded (x : S) (a : SessionMeaning) (cause : Cause) (fault : NodeFault)
+      (y : S) (b : SessionMeaning) : Type 0 where
+    pub act : act_of x (Ending cause a b) (place_of fault) y
+    pub made : made_by y ≡ made_by x
+    pub session : IsSameSession a b

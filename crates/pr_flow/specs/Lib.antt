@@ -1,0 +1,5 @@
+pub mod Calls
+pub mod Moving
+pub mod Flows
+pub mod Taking
+pub mod Ending

@@ -1,0 +1,75 @@
+// A message goes over a wire.
+ghost use Rattle.pr_flow.specs.Moving.{IsCarried, IsFrameOf, IsLie, IsNoLieOrCut, state_of};
+ghost use Rattle.pr_wire.specs.Messages.{IsMessage};
+ghost use Rattle.pr_wire.specs.Spelling.{spelling};
+ghost use Rattle.pr_wire.specs.declared.format.Format.{Format};
+ghost use Rattle.std.specs.Prelude.{◌≡◌, ◌≤◌, ◌<◌, ◌+◌, ◌++◌, IsTrue, IfOk, length, min, take};
+
+use crate::passing::{Passed, pass};
+use pr_inval::{Bytes, Msg};
+use pr_stamps::{NoMemory, Seq};
+use pr_story::Cause;
+use pr_wire::{Feed, Next, Pieces, encode, messages_are_never_bad, no_frame_begins_another};
+use pr_wires::{UNDER, Wire};
+use std::alloc::Global;
+
+/// A message was taken again and decoded; the wire failed or ended; or other bytes were taken.
+#[derive(Drop)]
+pub enum Carried {
+    Whole(Msg),
+    Cut(Cause),
+    Lied { sent: Bytes, got: Bytes },
+}
+
+/// Encodes a message, puts it into a wire that holds nothing, and decodes what is taken again, piece by piece. It takes
+/// memory for what it decodes, and for the encoding only where other bytes are taken.
+pub fn carry<W: Wire>(alloc: Global, msg: &Msg, wire: &mut W) -> Result<Carried, NoMemory>
+    requires message { IsMessage msg.now }
+    requires under { W.under wire.old ≡ 0 }
+    ensures moved { IsCarried (state_of W.faults W.ends W.under W.given W.taken W.held W.is_sound wire.old) (state_of W.faults W.ends W.under W.given W.taken W.held W.is_sound wire.new) msg.now result }
+    ensures sound { IsTrue (W.is_sound wire.old) → IsNoLieOrCut result }
+{
+    let mut pieces = Pieces::new(msg);
+    let mut feed = Feed::new(alloc, u64::MAX);
+    let mut piece = [0; UNDER];
+    let mut bytes = [0; UNDER];
+    let mut done: usize = 0;
+    loop {
+        let len = pieces.next(&mut piece);
+        if len == 0 {
+            return Ok(Carried::Whole(decoded(feed, msg)?));
+        }
+        match pass(wire, &piece[..len], &mut bytes[..len]) {
+            Passed::Whole => feed.push(&bytes[..len])?,
+            Passed::Cut(cause) => return Ok(Carried::Cut(cause)),
+            Passed::Lied { len } => return lied(alloc, msg, done, &bytes[..len]),
+        }
+        done = done.saturating_add(len);
+    }
+}
+
+// The message that is in.
+fn decoded(mut feed: Feed, msg: &Msg) -> Result<Msg, NoMemory>
+    requires { IsFrameOf feed msg.now }
+    ensures { IfOk result (λ m. m ≡ msg.now) }
+{
+    messages_are_never_bad();
+    no_frame_begins_another();
+    match feed.next()? {
+        Next::Message(msg) => Ok(msg),
+        _ => unreachable!(),
+    }
+}
+
+// The encoding of the message, and what was taken for it: so many first bytes of the encoding, and then these.
+fn lied(alloc: Global, msg: &Msg, done: usize, bytes: &[u8]) -> Result<Carried, NoMemory>
+    requires { IsMessage msg.now }
+    ensures { IfOk result (IsLie msg.now (take done (spelling Format.Two msg.now) ++ bytes.now)) }
+{
+    let mut sent = Seq::new(alloc);
+    encode(msg, &mut sent)?;
+    let done = done.min(sent.len());
+    let mut got = Seq::copied(alloc, &sent.as_slice()[..done])?;
+    got.extend(bytes)?;
+    Ok(Carried::Lied { sent, got })
+}
