@@ -1,0 +1,60 @@
+-- The write that a node makes next.
+use Rattle.std.proofs.Common.{◌≡◌, ℕ, ◌<◌, ◌≤◌, ◌+◌, List, refl, sym, ◌∙◌, ap, subst, arith}
+use Rattle.std.specs.Prelude.{Bool, Option, None, Some}
+use Rattle.std.specs.Option.{option_map}
+use Rattle.pr_stamps.specs.Point.{Point, IsStamp}
+use Rattle.pr_inval.specs.declared.write_rec.WriteRec.{WriteRec}
+use Rattle.pr_names.specs.Name.{IsName}
+use Rattle.pr_vectors.specs.Vector.{clock_of, IsVector}
+use Rattle.pr_vectors.proofs.Vectors.{clock_of-vector_of}
+use Rattle.pr_marks.specs.declared.newest.Newest.{Newest}
+use Rattle.pr_marks.specs.Table.{Table, newest_of}
+use Rattle.pr_story.specs.declared.entry.Entry.{Entry}
+use Rattle.pr_story.specs.History.{current_clock, current_vector}
+use Rattle.pr_story.specs.Knowledge.{IsNewestKnown}
+use Rattle.pr_story.specs.Ranges.{IsStampOrNone}
+use Rattle.pr_story.specs.Search.{IsNewestOf}
+use Rattle.pr_node.specs.Ties.{IsMarksOf, named}
+use Rattle.pr_node.specs.Writes.{IsClockWornIn, IsNextOwn}
+
+clock_is : (j : List Entry) (v : List ℕ) (w : ℕ) → v ≡ current_vector j → w < 32 → clock_of v w ≡ current_clock j w
+clock_is j v w is lt = ap (λ (x : List ℕ). clock_of x w) is ∙ clock_of-vector_of (current_clock j) w lt
+
+pub clock_worn : (j : List Entry) (v : List ℕ) (great : ℕ) → v ≡ current_vector j → IsVector v → ((n : ℕ) × (n < 32) × (clock_of v n ≡ great)) → (great < 4611686018427387903 → ⊥) → IsClockWornIn j
+clock_worn j v great is range held worn =
+    let most : clock_of v held.0 ≤ 4611686018427387903 = range.most held.0 held.1 in
+    let e : clock_of v held.0 ≡ current_clock j held.0 = clock_is j v held.0 is held.1 in
+    (held.0, held.1, at (clock_of v held.0) (current_clock j held.0) great most held.2 e worn)
+  where
+    at : (a b great : ℕ) → a ≤ 4611686018427387903 → a ≡ great → a ≡ b → (great < 4611686018427387903 → ⊥) → b ≡ 4611686018427387903
+    at a b great most h e worn = grind arith
+
+pub newest_known : (j : List Entry) (m : Table) (o : List ℕ) (newest : Option Newest) → IsMarksOf j m → newest ≡ newest_of m o → IsNewestKnown j o (option_map (λ (n : Newest). n.stamp) newest)
+newest_known j m o newest f is = by newest (f.newest o) is
+  where
+    by : (n : Option Newest) → IsNewestOf j o (named (newest_of m o)) → n ≡ newest_of m o → IsNewestKnown j o (option_map (λ (n : Newest). n.stamp) n)
+    by None known is = subst (λ (x : Option Newest). IsNewestOf j o (named x)) (sym is) known
+    by (Some n) known is = (subst (λ (x : Option Newest). IsNewestOf j o (named x)) (sym is) known).0
+
+pub next_own : (n : ℕ) (j : List Entry) (v name : List ℕ) (gone : Bool) (great clock : ℕ) (stamp : Point) (prev : Option Point)
+    → v ≡ current_vector j → ((w : ℕ) → w < 32 → clock_of v w ≤ great) → ((w : ℕ) × (w < 32) × (clock_of v w ≡ great))
+    → clock ≡ great + 1 → stamp ≡ record { clock = clock; node = n } → IsStamp stamp → IsName name → IsStampOrNone prev → IsNewestKnown j name prev
+    → IsNextOwn n j name gone (record { name = name; stamp = stamp; prev = prev; gone = gone })
+next_own n j v name gone great clock stamp prev is most held next at range is_name before newest =
+    let c : stamp.clock ≡ great + 1 = ap (λ (p : Point). p.clock) at ∙ next in
+    record {
+      is_name = refl;
+      is_gone = refl;
+      node = ap (λ (p : Point). p.node) at;
+      in_range = (is_name, range, before);
+      after_all = λ w lt. let e : clock_of v w ≡ current_clock j w = clock_is j v w is lt in let m : clock_of v w ≤ great = most w lt in omega (arith, c, e, m);
+      next = (held.0, held.1, c ∙ ap (λ (k : ℕ). k + 1) (sym held.2 ∙ clock_is j v held.0 is held.1));
+      newest = newest;
+    }
+
+pub own_above : (n : ℕ) (j : List Entry) (v name : List ℕ) (gone : Bool) (write : WriteRec) → n < 32 → v ≡ current_vector j → IsNextOwn n j name gone write → clock_of v write.stamp.node < write.stamp.clock
+own_above n j v name gone write id is own =
+    let lt : write.stamp.node < 32 = let e : write.stamp.node ≡ n = own.node in omega (arith, e, id) in
+    let e : clock_of v write.stamp.node ≡ current_clock j write.stamp.node = clock_is j v write.stamp.node is lt in
+    let a : current_clock j write.stamp.node < write.stamp.clock = own.after_all write.stamp.node lt in
+    omega (arith, e, a)

@@ -1,0 +1,148 @@
+-- What the log tells of the names and writes ahead of a position.
+use Rattle.std.proofs.Common.{◌≡◌, ℕ, ◌<◌, ◌≤◌, ◌⊎◌, inl, inr, List, max, min, refl, sym, ◌∙◌, ap, subst, arith}
+use Rattle.std.specs.Prelude.{Bool, true, false, IsTrue, ◌↔◌, None, Some}
+use Rattle.pr_stamps.specs.Point.{Point}
+use Rattle.pr_names.specs.Name.{IsName}
+use Rattle.pr_names.specs.Span.{Span}
+use Rattle.pr_vectors.specs.Vector.{clock_of, Between, Covers, Le, join_of, cut_of, below_of, last_before}
+use Rattle.pr_vectors.proofs.Vectors.{clock_of-vector_of}
+use Rattle.pr_sets.specs.Spans.{has, IsSetOf}
+use Rattle.pr_inval.specs.declared.kind.Kind.{Kind}
+use Rattle.pr_inval.specs.declared.kind.Kind.TheVariants.{Precise, Imprecise, Checkpoint, Body}
+use Rattle.pr_inval.specs.declared.write_rec.WriteRec.{WriteRec}
+use Rattle.pr_log.specs.Log.{Logged, is_lit, IsDarkIn, IsOmittedIn}
+use Rattle.pr_log.specs.Known.{IsWaiting}
+use Rattle.pr_log.specs.Waiting.{IsNextOf}
+use Rattle.pr_story.specs.declared.entry.Entry.{Entry}
+use Rattle.pr_story.specs.History.{current_vector}
+use Rattle.pr_story.specs.Told.{IsDarkBetween}
+use Rattle.pr_story.specs.Sending.{IsAhead}
+use Rattle.pr_story.specs.Turns.{IsOmitted, IsWithheld, IsTarget, IsWriteToSend, IsNextWrite}
+use Rattle.pr_story.proofs.Targets.{target_met}
+use Rattle.pr_node.specs.declared.ahead.Withheld.{Withheld}
+use Rattle.pr_node.specs.Sending.{IsImpreciseOf}
+use Rattle.pr_node.specs.Ties.{IsLogOf}
+use Rattle.pr_node.proofs.Clocks.{below_or_not, cut_out}
+
+-- ---- past a position that is not behind the cut
+
+pub above : (n : ℕ) (j : List Entry) (m : Logged) (pos : List ℕ) → IsLogOf n j m → Le m.cut pos → (p : Point) → (Covers pos p → ⊥) → Covers m.cut p → ⊥
+above n j m pos f le p out c = elim (below_or_not p.node 32) [
+  | inl lt ↦ let l : clock_of m.cut p.node ≤ clock_of pos p.node = le p.node lt in out (c.0, omega (arith, l, c.1))
+  | inr ge ↦ let z : clock_of m.cut p.node ≡ 0 = ap (λ (v : List ℕ). clock_of v p.node) f.cut ∙ cut_out j p.node ge in omega (arith, z, c.0, c.1)
+]
+
+past : (v w : List ℕ) (p : Point) → Between v w p → Covers v p → ⊥
+past v w p b c = omega (arith, b.0, c.1)
+
+set_mapped : (set : List Span) (P Q : List ℕ → Type 0) → IsSetOf set P → ((o : List ℕ) → IsName o → P o ↔ Q o) → IsSetOf set Q
+set_mapped set P Q s each = record {
+  one_list = s.one_list;
+  has_them = λ o name q. s.has_them o name ((each o name).1 q);
+  no_others = λ o name h. (each o name).0 (s.no_others o name h);
+}
+
+not_true : (b : Bool) → (IsTrue b → ⊥) → b ≡ false
+not_true true no_it = absurd (no_it refl)
+not_true false no_it = refl
+
+pub dark_set : (n : ℕ) (j : List Entry) (m : Logged) (from to : List ℕ) (set : List Span) → IsLogOf n j m → Le m.cut from → IsSetOf set (IsDarkIn m from to) → IsSetOf set (IsDarkBetween n j from to)
+dark_set n j m from to set f le s = set_mapped set (IsDarkIn m from to) (IsDarkBetween n j from to) s (λ o name. (
+  λ d. (
+    d.0,
+    d.1,
+    λ lit.
+        let t : is_lit m o d.0 ≡ true = (f.lit o d.0 name (above n j m from f le d.0 (past from to d.0 d.1))).1 lit in
+        let e : is_lit m o d.0 ≡ false = d.2 in cc,
+  ),
+  λ d. (d.0, d.1, not_true (is_lit m o d.0) (λ lit. d.2 ((f.lit o d.0 name (above n j m from f le d.0 (past from to d.0 d.1))).0 lit))),
+))
+
+pub omitted_set : (n : ℕ) (j : List Entry) (m : Logged) (from to : List ℕ) (names set : List Span) → IsLogOf n j m → Le m.cut from → IsSetOf set (IsOmittedIn m from to names) → IsSetOf set (IsOmitted j names from to)
+omitted_set n j m from to names set f le s = set_mapped set (IsOmittedIn m from to names) (IsOmitted j names from to) s (λ o name. (
+  λ d. (d.0, (d.1.0, (f.knows d.1.0 (above n j m from f le d.1.0.stamp (past from to d.1.0.stamp d.1.3))).0 d.1.1, d.1.2, d.1.3)),
+  λ d. (d.0, (d.1.0, (f.knows d.1.0 (above n j m from f le d.1.0.stamp (past from to d.1.0.stamp d.1.3))).1 d.1.1, d.1.2, d.1.3)),
+))
+
+waits : (n : ℕ) (j : List Entry) (m : Logged) (pos : List ℕ) (names : List Span) (x : WriteRec) → IsLogOf n j m → Le m.cut pos → IsWaiting m.known pos names x ↔ IsWriteToSend j names pos x
+waits n j m pos names x f le = (
+  λ w. ((f.knows x (above n j m pos f le x.stamp w.2)).0 w.0, w.1, w.2),
+  λ w. ((f.knows x (above n j m pos f le x.stamp w.2)).1 w.0, w.1, w.2),
+)
+
+next_is : (n : ℕ) (j : List Entry) (m : Logged) (pos : List ℕ) (names : List Span) (t : WriteRec) → IsLogOf n j m → Le m.cut pos → IsNextOf m.known pos names (Some t) → IsNextWrite j names pos t
+next_is n j m pos names t f le s = ((waits n j m pos names t f le).0 s.0, λ y w. s.1 y ((waits n j m pos names y f le).1 w))
+
+none_next : (n : ℕ) (j : List Entry) (m : Logged) (pos : List ℕ) (names : List Span) → IsLogOf n j m → Le m.cut pos → IsNextOf m.known pos names None → (x : WriteRec) → IsWriteToSend j names pos x → ⊥
+none_next n j m pos names f le s x w = s x ((waits n j m pos names x f le).1 w)
+
+-- ---- up to where a message may go
+
+min_le : (c a b : ℕ) → c ≡ min a b → c ≤ a
+min_le c a b e = grind arith
+
+below_le : (v : List ℕ) (t : Point) (w : ℕ) → w < 32 → clock_of (below_of v t) w ≤ clock_of v w
+below_le v t w lt = min_le (clock_of (below_of v t) w) (clock_of v w) (last_before t w) (clock_of-vector_of (λ n. min (clock_of v n) (last_before t n)) w lt)
+
+join_below : (pos v : List ℕ) (t : Point) → Le (join_of pos (below_of v t)) (join_of pos v)
+join_below pos v t w lt =
+    let a : clock_of (join_of pos (below_of v t)) w ≡ max (clock_of pos w) (clock_of (below_of v t) w) = clock_of-vector_of (λ n. max (clock_of pos n) (clock_of (below_of v t) n)) w lt in
+    let b : clock_of (join_of pos v) w ≡ max (clock_of pos w) (clock_of v w) = clock_of-vector_of (λ n. max (clock_of pos n) (clock_of v n)) w lt in
+    let c : clock_of (below_of v t) w ≤ clock_of v w = below_le v t w lt in
+    omega (arith, a, b, c)
+
+pub up_to : (pos v below before now : List ℕ) (t : Point) → now ≡ v → below ≡ below_of now t → before ≡ join_of pos below → Le before (join_of pos v)
+up_to pos v below before now t is b e = subst (λ (x : List ℕ). Le x (join_of pos v)) (sym (e ∙ ap (λ (x : List ℕ). join_of pos x) (b ∙ ap (λ (x : List ℕ). below_of x t) is))) (join_below pos v t)
+
+-- ---- the invalidation
+
+-- the names of which something is withheld by the journal
+pub record IsFoundBetween (n : ℕ) (j : List Entry) (names : List Span) (v w : List ℕ) (found : Withheld) : Type 0 where
+  pub dark : IsSetOf found.dark (IsDarkBetween n j v w)
+  pub omitted : IsSetOf found.omitted (IsOmitted j names v w)
+
+-- there is no write to send
+pub sends_rest : (n : ℕ) (j : List Entry) (m : Logged) (names : List Span) (pos now to : List ℕ) (found : Withheld) (kind : Kind)
+    → IsLogOf n j m → Le m.cut pos → IsNextOf m.known pos names None → now ≡ m.vector → to ≡ join_of pos now → IsFoundBetween n j names pos to found → IsImpreciseOf found names pos to kind → IsAhead n j names pos kind
+sends_rest n j m names pos now to found (Imprecise from end target) f le none is e s k = (
+  k.0,
+  subst (λ (x : List ℕ). IsTarget n j names pos x target) (sym k.1) (target_met n j names pos to found.dark found.omitted target s.dark s.omitted k.2),
+  inl (none_next n j m pos names f le none, k.1 ∙ e ∙ ap (λ (x : List ℕ). join_of pos x) (is ∙ f.vector)),
+)
+sends_rest n j m names pos now to found (Precise from end write) f le none is e s k = absurd k
+sends_rest n j m names pos now to found (Checkpoint end target floor rows) f le none is e s k = absurd k
+sends_rest n j m names pos now to found (Body name stamp bytes) f le none is e s k = absurd k
+
+-- something is withheld before the next write
+pub sends_before : (n : ℕ) (j : List Entry) (m : Logged) (names : List Span) (pos now below to : List ℕ) (t : WriteRec) (found : Withheld) (kind : Kind)
+    → IsLogOf n j m → Le m.cut pos → IsNextOf m.known pos names (Some t) → now ≡ m.vector → below ≡ below_of now t.stamp → to ≡ join_of pos below → IsFoundBetween n j names pos to found
+    → ((o : List ℕ) × IsName o × (IsTrue (has found.dark o) ⊎ IsTrue (has found.omitted o))) → IsImpreciseOf found names pos to kind → IsAhead n j names pos kind
+sends_before n j m names pos now below to t found (Imprecise from end target) f le next is b e s some k = (
+  k.0,
+  subst (λ (x : List ℕ). IsTarget n j names pos x target) (sym k.1) (target_met n j names pos to found.dark found.omitted target s.dark s.omitted k.2),
+  inr (
+    t,
+    next_is n j m pos names t f le next,
+    k.1 ∙ e ∙ ap (λ (x : List ℕ). join_of pos x) (b ∙ ap (λ (x : List ℕ). below_of x t.stamp) (is ∙ f.vector)),
+    (some.0, some.1, subst (λ (x : List ℕ). IsWithheld n j names pos x some.0) (sym k.1) (elim some.2 [ inl x ↦ inl (s.dark.no_others some.0 some.1 x) | inr x ↦ inr (s.omitted.no_others some.0 some.1 x) ])),
+  ),
+)
+sends_before n j m names pos now below to t found (Precise from end write) f le next is b e s some k = absurd k
+sends_before n j m names pos now below to t found (Checkpoint end target floor rows) f le next is b e s some k = absurd k
+sends_before n j m names pos now below to t found (Body name stamp bytes) f le next is b e s some k = absurd k
+
+-- nothing is withheld before the next write
+pub sends_write : (n : ℕ) (j : List Entry) (m : Logged) (names : List Span) (pos now below before cut to : List ℕ) (t : WriteRec) (found : Withheld) (kind : Kind)
+    → IsLogOf n j m → Le m.cut pos → IsNextOf m.known pos names (Some t) → now ≡ m.vector → below ≡ below_of now t.stamp → before ≡ join_of pos below → IsFoundBetween n j names pos before found
+    → ((o : List ℕ) → IsName o → (IsTrue (has found.dark o) ⊎ IsTrue (has found.omitted o)) → ⊥) → cut ≡ cut_of now t.stamp → to ≡ join_of pos cut → kind ≡ Precise pos to t → IsAhead n j names pos kind
+sends_write n j m names pos now below before cut to t found kind f le next is b e s none c u k =
+    let v : now ≡ current_vector j = is ∙ f.vector in
+    subst (λ (x : Kind). IsAhead n j names pos x) (sym k) (
+      refl,
+      next_is n j m pos names t f le next,
+      u ∙ ap (λ (x : List ℕ). join_of pos x) (c ∙ ap (λ (x : List ℕ). cut_of x t.stamp) v),
+      λ o name w. none o name (elim (subst (λ (x : List ℕ). IsWithheld n j names pos x o) (sym (e ∙ ap (λ (x : List ℕ). join_of pos x) (b ∙ ap (λ (x : List ℕ). below_of x t.stamp) v))) w) [
+        | inl d ↦ inl (s.dark.has_them o name d)
+        | inr d ↦ inr (s.omitted.has_them o name d)
+      ]),
+    )

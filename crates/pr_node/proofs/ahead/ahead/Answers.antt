@@ -1,0 +1,30 @@
+use Rattle.std.proofs.Common.{refl}
+use Rattle.pr_node.specs.Sending.{IsImpreciseOf}
+use Rattle.pr_node.proofs.Sending.{sends_before, sends_rest, sends_write, up_to}
+use Rattle.pr_story.proofs.Withholding.{if_ok}
+use Rattle.pr_node.proofs.ahead.ahead.Goals as goal
+
+pub returns-in_default-clause-next : goal.returns-in_default-clause-next
+returns-in_default-clause-next c =
+    if_ok c.imprecise.result (IsImpreciseOf c.in_ok-found.found c.args.names.now c.args.position.now c.join-to.result) _
+    (λ kind k n j f. sends_rest n j _ _ _ _ _ c.in_ok-found.found kind f c.requires.cut c.in_default.ensures c.vector-vector.ensures.value c.join-to.ensures
+    (record { dark = c.in_ok-found.ensures.dark n j f; omitted = c.in_ok-found.ensures.omitted n j f }) k)
+    c.imprecise.ensures.value
+
+pub found_between-requires-2-clause-to : goal.found_between-requires-2-clause-to
+found_between-requires-2-clause-to c =
+    up_to c.args.position.now c.args.log.now.vector c.below.result c.join-before.result c.vector-vector.result c.in-Some.write.stamp c.vector-vector.ensures.value c.below.ensures c.join-before.ensures
+
+pub returns-then-is_nothing-clause-next : goal.returns-then-is_nothing-clause-next
+returns-then-is_nothing-clause-next c n j f =
+    sends_write n j _ _ _ _ _ _ _ _ c.in-Some.write c.in_ok-found-2.found c.precise.result f c.requires.cut c.in-Some.ensures c.vector-vector.ensures.value c.below.ensures c.join-before.ensures
+    (record { dark = c.in_ok-found-2.ensures.dark n j f; omitted = c.in_ok-found-2.ensures.omitted n j f })
+    (c.if-is_nothing.ensures.none refl) c.stamp_cut.ensures c.join-to-then-is_nothing.ensures c.precise.ensures.value
+
+pub returns-clause-next : goal.returns-clause-next
+returns-clause-next c =
+    if_ok c.imprecise-2.result (IsImpreciseOf c.in_ok-found-2.found c.args.names.now c.args.position.now c.join-before.result) _
+    (λ kind k n j f. sends_before n j _ _ _ _ _ _ c.in-Some.write c.in_ok-found-2.found kind f c.requires.cut c.in-Some.ensures c.vector-vector.ensures.value c.below.ensures c.join-before.ensures
+    (record { dark = c.in_ok-found-2.ensures.dark n j f; omitted = c.in_ok-found-2.ensures.omitted n j f })
+    (c.if-is_nothing.ensures.some refl) k)
+    c.imprecise-2.ensures.value

@@ -1,0 +1,30 @@
+use Rattle.std.proofs.Common.{◌≡◌, ◌<◌, ◌^◌, ◌∙◌, ℕ, refl, ap, subst, rules, List, reverse}
+use Rattle.pr_inval.specs.Standing.{means, SessionMeaning}
+use Rattle.pr_story.specs.declared.entry.Entry.{Entry}
+use Rattle.pr_node.specs.Sending.{IsNextStep, event_of}
+use Rattle.pr_node.proofs.Adding.{stands, adds}
+use Rattle.pr_node.proofs.Quiet.{quiet_tied}
+use Rattle.pr_node.proofs.Stepping.{has_gone_on, step_at, turn_heard, turn_is, turn_quiet, turn_ready}
+use Rattle.pr_node.proofs.node.Node.turn.Goals as goal
+
+pub invariant_of-self-2 : goal.invariant_of-self-2
+invariant_of-self-2 c =
+    stands c.self.inside.id _ _ _ _ _ _ c.self.invariant.0 c.in_ok-time.ensures.items c.finish.ensures.items
+    (quiet_tied c.self.inside.id _ _ _ (turn_quiet c.stream.result c.in_ok-step.step c.in_ok-event.event c.in_ok-event.ensures) (c.self.invariant.1 c.in_ok-time.ensures.worked))
+
+pub returns-clause-ok : goal.returns-clause-ok
+returns-clause-ok c needs =
+    let j : List Entry = reverse c.self.inside.diary.entries.items in
+    let a : SessionMeaning = means c.args.session.now in
+    let tied = c.self.invariant.1 c.in_ok-time.ensures.worked in
+    let next : IsNextStep c.self.inside.id j a c.in_ok-time.time c.in_ok-step.step =
+    step_at c.self.inside.id j a (means c.room.new.self) c.in_ok-time.time c.in_ok-step.step c.room.ensures.same (c.in_ok-step.ensures.next c.self.inside.id j tied) in
+    let is : c.in_ok-event.event ≡ event_of a.stream c.in_ok-step.step = c.in_ok-event.ensures ∙ ap (λ (k : ℕ). event_of k c.in_ok-step.step) (c.stream.ensures ∙ c.room.ensures.same.stream) in
+    let fits : a.stream < 2 ^ 32 = subst (λ (k : ℕ). k < 2 ^ 32) (c.stream.ensures ∙ c.room.ensures.same.stream) (search rules) in
+    rw (← c.self.view_is) (adds _ _ _ _ _ _ _ _ _ (λ x. a.standing) needs _ c.time.result _ c.in_ok-time.ensures.items c.finish.ensures.items refl c.finish.ensures.spent
+    (turn_ready needs c.self.inside.id j _ a _ _ c.in_ok-step.step c.in_ok-event.event is fits c.in_ok-step.ensures.range next)
+    c.ranges.caller.fits refl (c.time.ensures.value ∙ turn_heard a.standing a.stream c.in_ok-step.step c.in_ok-event.event is) c.in_ok-time.ensures.time (
+      turn_is c.self.inside.id j a _ _ c.in_ok-step.step c.in_ok-event.event is next,
+      has_gone_on a (means c.room.new.self) (means c.note.new.session) _ _ c.in_ok-event.event _ c.room.ensures.same c.requires
+          (c.in_ok-event.ensures ∙ ap (λ (k : ℕ). event_of k c.in_ok-step.step) c.stream.ensures) (c.note.ensures c.args.caller),
+    ))

@@ -1,0 +1,116 @@
+// The invalidation that a stream's source sends where its vector is past the stream's position.
+ghost use Rattle.pr_inval.specs.Targets.{IsTargetFor};
+ghost use Rattle.pr_inval.specs.declared.kind.Kind.TheVariants.{Precise};
+ghost use Rattle.pr_names.specs.Name.{IsName};
+ghost use Rattle.pr_node.specs.Sending.{IsImpreciseOf};
+ghost use Rattle.pr_node.specs.Ties.{IsLogOf};
+ghost use Rattle.pr_sets.specs.Spans.{IsSetOf, Meet, has};
+ghost use Rattle.pr_story.specs.Ranges.{IsKind};
+ghost use Rattle.pr_story.specs.Sending.{IsAhead};
+ghost use Rattle.pr_story.specs.Told.{IsDarkBetween};
+ghost use Rattle.pr_story.specs.Turns.{IsOmitted};
+ghost use Rattle.pr_story.specs.declared.entry.Entry.{Entry};
+ghost use Rattle.pr_vectors.specs.Vector.{Le, join_of};
+ghost use Rattle.std.specs.Prelude.{◌≡◌, ◌⊎◌, ◌↔◌, ℕ, List, IfOk, IsTrue, false};
+
+use crate::ranges::write_in_range;
+use pr_inval::{Kind, WriteRec, target_for};
+use pr_log::Log;
+use pr_names::Name;
+use pr_sets::NameSet;
+use pr_stamps::{NoMemory, Stamp};
+use pr_vectors::Vector;
+use std::alloc::Global;
+
+// The names of which something is withheld between two vectors.
+#[derive(Drop)]
+pub struct Withheld {
+    pub dark: NameSet,
+    pub omitted: NameSet,
+}
+
+// The invalidation for these names from a position that the vector is past.
+pub fn ahead(alloc: Global, log: &Log, names: &NameSet, position: &Vector) -> Result<Kind, NoMemory>
+    requires cut { Le log.now.cut position.now }
+    ensures next { IfOk result (λ kind. (n : ℕ) (j : List Entry) → IsLogOf n j log.now → IsAhead n j names.now position.now kind) }
+    ensures range { IfOk result IsKind }
+{
+    let vector = log.vector();
+    let Some(write) = log.next_write(position, names) else {
+        let to = position.join(&vector);
+        let found = found_between(log, names, position, &to)?;
+        return imprecise(alloc, &found, names, position, &to);
+    };
+    let before = position.join(&vector.below(&write.stamp));
+    let found = found_between(log, names, position, &before)?;
+    if is_nothing(&found) {
+        let to = position.join(&vector.stamp_cut(&write.stamp));
+        return Ok(precise(position, &to, &write));
+    }
+    imprecise(alloc, &found, names, position, &before)
+}
+
+fn found_between(
+    log: &Log,
+    names: &NameSet,
+    from: &Vector,
+    to: &Vector,
+) -> Result<Withheld, NoMemory>
+    requires cut { Le log.now.cut from.now }
+    requires to { Le to.now (join_of from.now log.now.vector) }
+    ensures dark { IfOk result (λ w. (n : ℕ) (j : List Entry) → IsLogOf n j log.now → IsSetOf w.dark (IsDarkBetween n j from.now to.now)) }
+    ensures omitted { IfOk result (λ w. (n : ℕ) (j : List Entry) → IsLogOf n j log.now → IsSetOf w.omitted (IsOmitted j names.now from.now to.now)) }
+    ensures apart { IfOk result (λ w. ¬ Meet (has w.omitted) (has names.now)) }
+{
+    let dark = log.dark_between(from, to)?;
+    let omitted = log.omitted_between(from, to, names)?;
+    Ok(Withheld { dark, omitted })
+}
+
+// Whether nothing is withheld.
+fn is_nothing(found: &Withheld) -> bool
+    ensures none { IsTrue result → (o : List ℕ) → IsName o → ¬ (IsTrue (has found.now.dark o) ⊎ IsTrue (has found.now.omitted o)) }
+    ensures some { result ≡ false → (o : List ℕ) × IsName o × (IsTrue (has found.now.dark o) ⊎ IsTrue (has found.now.omitted o)) }
+{
+    if found.dark.is_empty() {
+        found.omitted.is_empty()
+    } else {
+        false
+    }
+}
+
+fn imprecise(
+    alloc: Global,
+    found: &Withheld,
+    names: &NameSet,
+    from: &Vector,
+    to: &Vector,
+) -> Result<Kind, NoMemory>
+    requires { ¬ Meet (has found.now.omitted) (has names.now) }
+    ensures value { IfOk result (IsImpreciseOf found.now names.now from.now to.now) }
+    ensures range { IfOk result IsKind }
+{
+    let target = target_for(alloc, &found.omitted, &found.dark, names)?;
+    let _ = target.parts();
+    let _ = from.at(0);
+    let _ = to.at(0);
+    Ok(Kind::Imprecise {
+        from: *from,
+        to: *to,
+        target,
+    })
+}
+
+fn precise(from: &Vector, to: &Vector, write: &WriteRec) -> Kind
+    ensures value { result ≡ Precise from.now to.now write.now }
+    ensures range { IsKind result }
+{
+    let _ = from.at(0);
+    let _ = to.at(0);
+    write_in_range(write);
+    Kind::Precise {
+        from: *from,
+        to: *to,
+        write: *write,
+    }
+}

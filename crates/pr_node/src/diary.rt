@@ -1,0 +1,116 @@
+// What a node has done, and whether it works.
+ghost use Rattle.pr_inval.specs.declared.node_fault.NodeFault.TheVariants as faults;
+ghost use Rattle.pr_node.specs.Calls.{IsHalted};
+ghost use Rattle.pr_story.specs.Lawful.{last_time};
+ghost use Rattle.std.specs.Prelude.{◌≡◌, ◌≤◌, ◌<◌, ◌+◌, ◌++◌, ◌∷◌, [], Err, true, false, IfErr, IfOk, OnOk, max, reverse};
+
+use pr_inval::NodeFault;
+use pr_stamps::MAX;
+use pr_story::{Entry, Event, Journal};
+use std::alloc::Global;
+use std::marker::Model;
+
+// A node's journal. From where a call begins to where its entry is made the node counts as spent, so that a refusal on
+// the way leaves it spent.
+#[derive(Drop)]
+pub struct Diary {
+    journal: Journal,
+    last: u64,
+    spent: bool,
+}
+
+impl Model for Diary {
+    ghost use Rattle.pr_node.specs.Stored.{Noted};
+    ghost use Rattle.pr_story.specs.Lawful.{last_time};
+    ghost use Rattle.std.specs.Prelude.{◌≡◌, ◌≤◌, reverse};
+
+    ghost Value = { Noted };
+
+    ghost view = { λ d. record { entries = d.journal; spent = d.spent } };
+
+    ghost invariant = { λ d. (d.last ≡ last_time (reverse d.journal.items)) × (d.last ≤ 4611686018427387903) };
+}
+
+impl Diary {
+    pub fn new(alloc: Global) -> Diary
+        ensures items { result.entries.items ≡ [] }
+        ensures works { result.spent ≡ false }
+    {
+        Diary {
+            journal: Journal::new(alloc),
+            last: 0,
+            spent: false,
+        }
+    }
+
+    pub fn journal(&self) -> &Journal
+        ensures { result.now ≡ self.now.entries }
+    {
+        &self.journal
+    }
+
+    pub fn is_spent(&self) -> bool
+        ensures { result ≡ self.now.spent }
+    {
+        self.spent
+    }
+
+    // Keeps room for an entry, and gives its time, where its event hears of another.
+    pub fn begin(&mut self, heard: u64) -> Result<u64, NodeFault>
+        requires { heard ≤ 4611686018427387903 }
+        ensures time { IfOk result (λ time. (time ≡ max (last_time (reverse self.old.entries.items)) heard + 1) × (time ≤ 4611686018427387903)) }
+        ensures spent { OnOk result (self.new.spent ≡ true) }
+        ensures worked { OnOk result (self.old.spent ≡ false) }
+        ensures stays { self.new.spent ≡ false → self.old.spent ≡ false }
+        ensures room { OnOk result (0 < self.new.entries.room) }
+        ensures items { self.new.entries.items ≡ self.old.entries.items }
+        ensures fault { IfErr result (IsHalted (last_time (reverse self.old.entries.items)) heard self.new.spent) }
+        ensures was_spent { self.old.spent ≡ true → result ≡ Err faults.NoMemory }
+    {
+        if self.spent {
+            return Err(NodeFault::NoMemory);
+        }
+        let time = next_time(self.last, heard)?;
+        self.spent = true;
+        self.journal.reserve()?;
+        Ok(time)
+    }
+
+    // Nothing has changed since the call began.
+    pub fn give_up(&mut self)
+        ensures items { self.new.entries.items ≡ self.old.entries.items }
+        ensures spent { self.new.spent ≡ false }
+    {
+        self.spent = false;
+    }
+
+    // Makes the entry of the event, for which there is room.
+    pub fn finish(&mut self, time: u64, caller: u32, event: Event)
+        requires room { 0 < self.old.entries.room }
+        requires early { time ≤ 4611686018427387903 }
+        ensures items { self.new.entries.items ≡ self.old.entries.items ++ (record { time = time; caller = caller; event = event }) ∷ [] }
+        ensures spent { self.new.spent ≡ false }
+    {
+        self.journal.push(Entry {
+            time,
+            caller,
+            event,
+        });
+        self.last = time;
+        self.spent = false;
+    }
+}
+
+// The time is one more than the greater of the two; it is worn where that is the greatest.
+fn next_time(last: u64, heard: u64) -> Result<u64, NodeFault>
+    requires last { last ≤ 4611686018427387903 }
+    requires heard { heard ≤ 4611686018427387903 }
+    ensures time { IfOk result (λ time. (time ≡ max last heard + 1) × (time ≤ 4611686018427387903)) }
+    ensures worn { IfErr result (λ fault. (fault ≡ faults.Worn 4611686018427387903) × (max last heard ≡ 4611686018427387903)) }
+{
+    let most = last.max(heard);
+    if most == MAX {
+        return Err(NodeFault::Worn { at: MAX });
+    }
+    Ok(most + 1)
+}

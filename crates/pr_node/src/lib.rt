@@ -1,0 +1,23 @@
+//! A node: its journal, and the stores that are tied to it.
+#![tactic(auto)]
+
+mod ahead;
+mod answering;
+mod answers;
+mod diary;
+mod node;
+mod ranges;
+mod standing;
+mod starting;
+mod stores;
+mod taking;
+#[cfg(test)]
+mod tests;
+mod turning;
+mod waiting_bodies;
+mod writing;
+
+pub use answers::{Answer, Done, Seen};
+pub use node::Node;
+pub use pr_inval::{NodeFault, Step, Taken};
+pub use stores::Stores;

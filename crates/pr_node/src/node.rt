@@ -1,0 +1,427 @@
+// A node.
+ghost use Rattle.pr_node.specs.Answering.{IsAnswerAt, reply_of};
+ghost use Rattle.pr_node.specs.Calls.{AddsAlone, AddsOfClient, AddsOfStream, HasGoneOn, IsAttachedAt, IsCheckpointSent, IsDone, IsDownFor, IsFault, IsMissed, IsMoveOf, IsSeen, IsStateEvent, IsStep, IsTaken, IsTimeWorn, IsWriteWorn};
+ghost use Rattle.pr_node.specs.Taking.{IsOrderly};
+ghost use Rattle.pr_story.specs.History.{current_vector};
+ghost use Rattle.pr_vectors.specs.Vector.{IsVector};
+ghost use Rattle.pr_inval.specs.declared.msg.Msg.{Msg};
+ghost use Rattle.pr_node.specs.Stored.{means};
+ghost use Rattle.pr_node.specs.Ties.{AreApart};
+ghost use Rattle.pr_inval.specs.Standing as Standing;
+ghost use Rattle.pr_inval.specs.Standing.{IsSameSession};
+ghost use Rattle.pr_inval.specs.declared.node_fault.NodeFault.TheVariants as faults;
+ghost use Rattle.pr_names.specs.Span.{Span};
+ghost use Rattle.pr_story.specs.declared.entry.Entry.{Entry};
+ghost use Rattle.pr_story.specs.declared.event.Event.TheVariants.{Conflicts, Cut, Dropped};
+ghost use Rattle.std.specs.Prelude.{◌≡◌, ◌≤◌, ◌<◌, ◌+◌, [], ℕ, List, true, false, Err, IfErr, IfOk, IsTrue, OnErr, OnOk, length, max, reverse};
+
+use crate::answering::{answer, copy, found, replies};
+use crate::diary::Diary;
+use crate::ranges::{bytes_in_range, msg_in_range};
+use crate::standing::precise;
+use crate::starting::{snapshot, start};
+use crate::taking::{gap, take};
+use crate::turning::{event_of, message, next_step, note};
+use crate::writing::{keep_write, next_write};
+use crate::{Answer, Done, Seen, Stores};
+use pr_bodies::Bodies;
+use pr_gaps::Gaps;
+use pr_inval::{Msg, NodeFault, Session, Step, Taken};
+use pr_log::Log;
+use pr_marks::Marks;
+use pr_names::Name;
+use pr_sets::NameSet;
+use pr_stamps::{MAX, NoMemory, Seq};
+use pr_story::{Cause, Event, Found, Journal};
+use pr_vectors::Vector;
+use std::alloc::Global;
+use std::marker::Model;
+
+/// One node of a replicated store. Each call that takes a caller's number makes exactly one entry of its journal, and
+/// nothing else of it is seen. After want of memory it is spent: its journal stays, and each later such call is refused.
+#[derive(Drop)]
+pub struct Node {
+    alloc: Global,
+    id: u32,
+    diary: Diary,
+    stores: Stores,
+}
+
+impl Model for Node {
+    ghost use Rattle.pr_node.specs.Stored.{Stored};
+    ghost use Rattle.pr_node.specs.Ties.{IsTied};
+    ghost use Rattle.std.specs.Prelude.{◌≡◌, ◌<◌, false, reverse};
+
+    ghost Value = { Stored };
+
+    ghost view = { λ n. record { id = n.id; journal = n.diary.entries; stores = n.stores; spent = n.diary.spent } };
+
+    ghost invariant = { λ n. (n.id < 32) × (n.diary.spent ≡ false → IsTied n.id (reverse n.diary.entries.items) n.stores) };
+}
+
+impl Node {
+    /// A node that has done nothing, with these sets of names, which share no name, and its number below 32. It takes
+    /// time linear in the intervals of the sets, for each set.
+    pub fn new(alloc: Global, id: u32, sets: Seq<NameSet>) -> Result<Node, NoMemory>
+        requires id { id < 32 }
+        requires apart { AreApart sets }
+        ensures { IfOk result (λ node. means node ≡ record { id = id; sets = sets; journal = []; spent = false }) }
+    {
+        let stores = Stores {
+            log: Log::new(alloc, id)?,
+            gaps: Gaps::new(alloc, id, sets)?,
+            bodies: Bodies::new(alloc),
+            marks: Marks::new(alloc),
+        };
+        Ok(Node {
+            alloc,
+            id,
+            diary: Diary::new(alloc),
+            stores,
+        })
+    }
+
+    /// The points of which the node was told, in constant time. A spent node's are not said.
+    pub fn vector(&self) -> Vector
+        ensures value { self.now.spent ≡ false → result ≡ current_vector (means self.now).journal }
+        ensures range { IsVector result }
+    {
+        self.stores.log.vector()
+    }
+
+    /// What the node has done.
+    pub fn journal(&self) -> &Journal
+        ensures { reverse result.now.items ≡ (means self.now).journal }
+    {
+        self.diary.journal()
+    }
+
+    /// Whether a call was refused memory.
+    pub fn is_spent(&self) -> bool
+        ensures { result ≡ (means self.now).spent }
+    {
+        self.diary.is_spent()
+    }
+
+    /// A client's write (the local update of "PRACTI Replication", NSDI 2006, section 3.1), or Behind where the node's
+    /// vector lacks some of `needs`, what the client has seen. The body has at most 65,536 bytes. It takes the time of
+    /// the stores' calls, and is linear in the body.
+    pub fn write(
+        &mut self,
+        caller: u32,
+        client: u32,
+        name: &Name,
+        body: &[u8],
+        needs: &Vector,
+    ) -> Result<Done, NodeFault>
+        requires short { length body.now ≤ 65536 }
+        ensures ok { IfOk result (λ done. AddsOfClient (means self.old) (means self.new) needs.now caller (IsDone client name.now body.now false done)) }
+        ensures fault { IfErr result (IsFault (means self.old) (means self.new) (IsWriteWorn (means self.old) needs.now)) }
+        ensures spent { self.old.spent ≡ true → result ≡ Err faults.NoMemory }
+    {
+        self.put(caller, client, name, body, false, needs)
+    }
+
+    /// A client's delete: a write without a body, known by its invalidation alone. It answers as `write` does, in the
+    /// time of the stores' calls.
+    pub fn delete(
+        &mut self,
+        caller: u32,
+        client: u32,
+        name: &Name,
+        needs: &Vector,
+    ) -> Result<Done, NodeFault>
+        ensures ok { IfOk result (λ done. AddsOfClient (means self.old) (means self.new) needs.now caller (IsDone client name.now [] true done)) }
+        ensures fault { IfErr result (IsFault (means self.old) (means self.new) (IsWriteWorn (means self.old) needs.now)) }
+        ensures spent { self.old.spent ≡ true → result ≡ Err faults.NoMemory }
+    {
+        self.put(caller, client, name, &[], true, needs)
+    }
+
+    fn put(
+        &mut self,
+        caller: u32,
+        client: u32,
+        name: &Name,
+        body: &[u8],
+        gone: bool,
+        needs: &Vector,
+    ) -> Result<Done, NodeFault>
+        requires short { length body.now ≤ 65536 }
+        requires gone { gone ≡ true → body.now ≡ [] }
+        ensures ok { IfOk result (λ done. AddsOfClient (means self.old) (means self.new) needs.now caller (IsDone client name.now body.now gone done)) }
+        ensures fault { IfErr result (IsFault (means self.old) (means self.new) (IsWriteWorn (means self.old) needs.now)) }
+        ensures spent { self.old.spent ≡ true → result ≡ Err faults.NoMemory }
+    {
+        let time = self.diary.begin(0)?;
+        let after = self.stores.log.vector();
+        let _ = needs.at(0);
+        bytes_in_range(body);
+        if !needs.le(&after) {
+            let event = Event::Behind {
+                client,
+                needs: *needs,
+                has: after,
+            };
+            self.diary.finish(time, caller, event);
+            return Ok(Done::Behind { has: after });
+        }
+        let Some(write) = next_write(&self.stores, self.id, name, gone) else {
+            self.diary.give_up();
+            return Err(NodeFault::Worn { at: MAX });
+        };
+        let body = Seq::copied(self.alloc, body)?;
+        keep_write(&mut self.stores, &write, body.as_slice())?;
+        let stamp = write.stamp;
+        let event = Event::Wrote {
+            client,
+            write,
+            body,
+            after,
+        };
+        self.diary.finish(time, caller, event);
+        Ok(Done::Stamp(stamp))
+    }
+
+    /// Takes a message of a stream, or finds that one before it is missing ("PRACTI Replication", NSDI 2006, section
+    /// 3.2). It takes the time of the stores' calls: what stands between the points of an invalidation, and the rows of a
+    /// checkpoint. The name's bodies that a later write makes useless are dropped.
+    pub fn accept(&mut self, caller: u32, msg: Msg) -> Result<Taken, NodeFault>
+        requires early { msg.time ≤ 4611686018427387903 }
+        requires orderly { IsOrderly msg.kind }
+        ensures ok { IfOk result (λ taken. AddsAlone (means self.old) (means self.new) caller (IsTaken msg taken)) }
+        ensures fault { IfErr result (IsFault (means self.old) (means self.new) (IsTimeWorn (means self.old) msg.time)) }
+        ensures spent { self.old.spent ≡ true → result ≡ Err faults.NoMemory }
+    {
+        msg_in_range(&msg);
+        let time = self.diary.begin(msg.time)?;
+        let has = self.stores.log.vector();
+        if let Some(needs) = gap(&msg.kind, &has) {
+            let event = Event::Gapped { msg, has };
+            self.diary.finish(time, caller, event);
+            return Ok(Taken::Gap { needs, has, time });
+        }
+        take(self.alloc, &mut self.stores, &msg.kind)?;
+        let at = self.stores.log.vector();
+        let event = Event::Accepted { msg, at };
+        self.diary.finish(time, caller, event);
+        Ok(Taken::Accepted { time })
+    }
+
+    /// Truncates the log up to the node's vector, which is answered, and forgets the marks that it covers. It takes time
+    /// linear in what is forgotten and in the known names, and no memory but for the entry.
+    pub fn cut(&mut self, caller: u32) -> Result<Vector, NodeFault>
+        ensures ok { IfOk result (λ at. AddsAlone (means self.old) (means self.new) caller (λ e. e.event ≡ Cut at)) }
+        ensures fault { IfErr result (IsFault (means self.old) (means self.new) (IsTimeWorn (means self.old) 0)) }
+        ensures spent { self.old.spent ≡ true → result ≡ Err faults.NoMemory }
+    {
+        let time = self.diary.begin(0)?;
+        let at = self.stores.log.vector();
+        self.stores.log.cut();
+        self.stores.marks.forget(&at);
+        let event = Event::Cut { at };
+        self.diary.finish(time, caller, event);
+        Ok(at)
+    }
+
+    /// Drops the bodies of a name, each in time logarithmic in the bodies held. It takes no memory but for the entry.
+    pub fn drop_body(&mut self, caller: u32, name: &Name) -> Result<(), NodeFault>
+        ensures ok { IfOk result (λ _. AddsAlone (means self.old) (means self.new) caller (λ e. e.event ≡ Dropped name.now)) }
+        ensures fault { IfErr result (IsFault (means self.old) (means self.new) (IsTimeWorn (means self.old) 0)) }
+        ensures spent { self.old.spent ≡ true → result ≡ Err faults.NoMemory }
+    {
+        let time = self.diary.begin(0)?;
+        let _ = name.bytes();
+        self.stores.bodies.drop_all(name);
+        let event = Event::Dropped { name: *name };
+        self.diary.finish(time, caller, event);
+        Ok(())
+    }
+
+    /// The newest write to a name, by what the node was told, for a node that is not spent. It takes no memory, and time
+    /// linear in the sets and logarithmic in the names and bodies.
+    pub fn look(&self, name: &Name) -> Answer<'_>
+        requires { (means self.now).spent ≡ false }
+        ensures { IsAnswerAt (means self.now) name.now (reply_of result) }
+    {
+        answer(&self.stores, name)
+    }
+
+    /// A client's read, which is answered as by `look`, or Behind where the node's vector lacks some of `needs`, what the
+    /// client has seen. It takes the time of `look`, and copies the body.
+    pub fn read(
+        &mut self,
+        caller: u32,
+        client: u32,
+        name: &Name,
+        needs: &Vector,
+    ) -> Result<Seen, NodeFault>
+        ensures ok { IfOk result (λ seen. AddsOfClient (means self.old) (means self.new) needs.now caller (IsSeen client name.now seen)) }
+        ensures fault { IfErr result (IsFault (means self.old) (means self.new) (IsTimeWorn (means self.old) 0)) }
+        ensures spent { self.old.spent ≡ true → result ≡ Err faults.NoMemory }
+    {
+        let time = self.diary.begin(0)?;
+        let at = self.stores.log.vector();
+        let _ = needs.at(0);
+        let _ = name.bytes();
+        if !needs.le(&at) {
+            let event = Event::Behind {
+                client,
+                needs: *needs,
+                has: at,
+            };
+            self.diary.finish(time, caller, event);
+            return Ok(Seen::Behind { has: at });
+        }
+        let (answered, kept) = replies(self.alloc, &answer(&self.stores, name))?;
+        let event = Event::Answered {
+            client,
+            name: *name,
+            reply: kept,
+            at,
+        };
+        self.diary.finish(time, caller, event);
+        Ok(Seen::Reply(answered))
+    }
+
+    /// The conflicts of a name ("PRACTI Replication", NSDI 2006, section 3.4), or the least untold point of its set, in
+    /// time quadratic in the marks of the name.
+    pub fn conflicts(&mut self, caller: u32, name: &Name) -> Result<Found, NodeFault>
+        ensures ok { IfOk result (λ found. AddsAlone (means self.old) (means self.new) caller (λ e. e.event ≡ Conflicts name.now found)) }
+        ensures fault { IfErr result (IsFault (means self.old) (means self.new) (IsTimeWorn (means self.old) 0)) }
+        ensures spent { self.old.spent ≡ true → result ≡ Err faults.NoMemory }
+    {
+        let time = self.diary.begin(0)?;
+        let _ = name.bytes();
+        let found = found(&self.stores, name)?;
+        let answered = copy(self.alloc, &found)?;
+        let event = Event::Conflicts { name: *name, found };
+        self.diary.finish(time, caller, event);
+        Ok(answered)
+    }
+
+    /// Tells the node's state: its vector, cut and floor, and up to where each of its sets is precise, the rest last. It
+    /// takes the time of `Gaps::last_precise` for each set.
+    pub fn state(&mut self, caller: u32) -> Result<(), NodeFault>
+        ensures ok { IfOk result (λ _. AddsAlone (means self.old) (means self.new) caller (λ e. IsStateEvent e.event)) }
+        ensures fault { IfErr result (IsFault (means self.old) (means self.new) (IsTimeWorn (means self.old) 0)) }
+        ensures spent { self.old.spent ≡ true → result ≡ Err faults.NoMemory }
+    {
+        let time = self.diary.begin(0)?;
+        let precise = precise(self.alloc, &self.stores.gaps)?;
+        let event = Event::State {
+            at: self.stores.log.vector(),
+            cut: self.stores.log.cut_at(),
+            floor: self.stores.marks.floor(),
+            precise,
+        };
+        self.diary.finish(time, caller, event);
+        Ok(())
+    }
+
+    /// The turn of a stream at its source ("PRACTI Replication", NSDI 2006, section 3.1): its next invalidation; where
+    /// it has told all, the next body, if it sends bodies; or that it lies behind the cut, so that it wants a
+    /// checkpoint. It takes the time of the log's calls, and for a body a logarithmic look at each known name up to the
+    /// one that it sends.
+    pub fn turn(&mut self, caller: u32, session: &mut Session) -> Result<Step, NodeFault>
+        requires { IsTrue (Standing.means session.old).attached }
+        ensures ok { IfOk result (λ step. AddsOfStream (means self.old) (means self.new) (Standing.means session.old).standing caller (λ e. IsStep (Standing.means session.old).stream step e × HasGoneOn (Standing.means session.old) (Standing.means session.new) true e)) }
+        ensures session { OnErr result (IsSameSession (Standing.means session.old) (Standing.means session.new)) }
+        ensures fault { IfErr result (IsFault (means self.old) (means self.new) (IsTimeWorn (means self.old) (Standing.means session.old).standing.time)) }
+        ensures spent { self.old.spent ≡ true → result ≡ Err faults.NoMemory }
+    {
+        let time = self.diary.begin(session.time())?;
+        session.room()?;
+        let step = next_step(self.alloc, &self.stores, session, time)?;
+        let event = event_of(self.alloc, &step, session.stream())?;
+        note(session, &step, time);
+        self.diary.finish(time, caller, event);
+        Ok(step)
+    }
+
+    /// Sends the checkpoint of the stream's names, at its source ("PRACTI Replication", NSDI 2006, section 3.3), up to
+    /// the node's vector. It takes the time of `pr_snap::build`.
+    pub fn checkpoint(&mut self, caller: u32, session: &mut Session) -> Result<Msg, NodeFault>
+        requires { IsTrue (Standing.means session.old).attached }
+        ensures ok { IfOk result (λ msg. AddsOfStream (means self.old) (means self.new) (Standing.means session.old).standing caller (λ e. IsCheckpointSent (Standing.means session.old).stream msg e × HasGoneOn (Standing.means session.old) (Standing.means session.new) true e)) }
+        ensures session { OnErr result (IsSameSession (Standing.means session.old) (Standing.means session.new)) }
+        ensures fault { IfErr result (IsFault (means self.old) (means self.new) (IsTimeWorn (means self.old) (Standing.means session.old).standing.time)) }
+        ensures spent { self.old.spent ≡ true → result ≡ Err faults.NoMemory }
+    {
+        let time = self.diary.begin(session.time())?;
+        let kind = snapshot(self.alloc, &self.stores, session.sub())?;
+        let msg = message(session, kind, time);
+        let sent = msg.copy(self.alloc)?;
+        session.sent(&self.stores.gaps.vector(), time);
+        let event = Event::Sent { msg: sent };
+        self.diary.finish(time, caller, event);
+        Ok(msg)
+    }
+
+    /// Attaches the stream at its destination, and answers its start: per node the greatest covered clock up to which
+    /// each point is told for each of the node's sets that share a name with the subscription. It takes the time of
+    /// `last_precise` for each of these sets, linear in the intervals of all, and forgets the bodies sent.
+    pub fn attach(&mut self, caller: u32, session: &mut Session) -> Result<Vector, NodeFault>
+        ensures ok { IfOk result (λ at. AddsOfStream (means self.old) (means self.new) (Standing.means session.old).standing caller (λ e. IsAttachedAt (Standing.means session.old).stream at e × HasGoneOn (Standing.means session.old) (Standing.means session.new) true e)) }
+        ensures session { OnErr result (IsSameSession (Standing.means session.old) (Standing.means session.new)) }
+        ensures fault { IfErr result (IsFault (means self.old) (means self.new) (IsTimeWorn (means self.old) (Standing.means session.old).standing.time)) }
+        ensures spent { self.old.spent ≡ true → result ≡ Err faults.NoMemory }
+    {
+        let time = self.diary.begin(session.time())?;
+        let at = start(&self.stores.gaps, session.sub());
+        session.begin(&at);
+        session.heard(time);
+        let event = Event::Attached {
+            stream: session.stream(),
+            at,
+        };
+        self.diary.finish(time, caller, event);
+        Ok(at)
+    }
+
+    /// A flow of the stream ended for this cause, at its destination. It takes constant time.
+    pub fn down(
+        &mut self,
+        caller: u32,
+        session: &mut Session,
+        cause: Cause,
+    ) -> Result<(), NodeFault>
+        ensures ok { OnOk result (AddsOfStream (means self.old) (means self.new) (Standing.means session.old).standing caller (λ e. IsDownFor (Standing.means session.old).stream cause e × HasGoneOn (Standing.means session.old) (Standing.means session.new) (Standing.means session.old).attached e)) }
+        ensures session { OnErr result (IsSameSession (Standing.means session.old) (Standing.means session.new)) }
+        ensures fault { IfErr result (IsFault (means self.old) (means self.new) (IsTimeWorn (means self.old) (Standing.means session.old).standing.time)) }
+        ensures spent { self.old.spent ≡ true → result ≡ Err faults.NoMemory }
+    {
+        let time = self.diary.begin(session.time())?;
+        session.heard(time);
+        let event = Event::Down {
+            stream: session.stream(),
+            cause,
+        };
+        self.diary.finish(time, caller, event);
+        Ok(())
+    }
+
+    /// The stream was to deliver a message that was not sent, at its destination. It takes constant time.
+    pub fn missing(&mut self, caller: u32, stream: u32, number: u64) -> Result<(), NodeFault>
+        ensures ok { OnOk result (AddsAlone (means self.old) (means self.new) caller (IsMissed stream number)) }
+        ensures fault { IfErr result (IsFault (means self.old) (means self.new) (IsTimeWorn (means self.old) 0)) }
+        ensures spent { self.old.spent ≡ true → result ≡ Err faults.NoMemory }
+    {
+        let time = self.diary.begin(0)?;
+        let event = Event::Missing { stream, number };
+        self.diary.finish(time, caller, event);
+        Ok(())
+    }
+
+    /// A client came to this node. It takes constant time.
+    pub fn moved(&mut self, caller: u32, client: u32) -> Result<(), NodeFault>
+        ensures ok { OnOk result (AddsAlone (means self.old) (means self.new) caller (IsMoveOf client)) }
+        ensures fault { IfErr result (IsFault (means self.old) (means self.new) (IsTimeWorn (means self.old) 0)) }
+        ensures spent { self.old.spent ≡ true → result ≡ Err faults.NoMemory }
+    {
+        let time = self.diary.begin(0)?;
+        let event = Event::Moved { client };
+        self.diary.finish(time, caller, event);
+        Ok(())
+    }
+}

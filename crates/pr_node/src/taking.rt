@@ -1,0 +1,156 @@
+// What a message changes of the stores.
+ghost use Rattle.pr_inval.specs.Points.{from_of};
+ghost use Rattle.pr_inval.specs.declared.kind.Kind.TheVariants.{Body, Checkpoint, Imprecise, Precise};
+ghost use Rattle.pr_node.specs.Taking.{AreSettled, HasTaken, IsBodyTaken, IsGap, IsLate, IsOrderly};
+ghost use Rattle.pr_story.specs.Ranges.{IsKind};
+ghost use Rattle.pr_vectors.specs.Vector.{Le};
+ghost use Rattle.std.specs.Prelude.{◌≡◌, ◌↔◌, IsTrue, OnOk};
+
+use crate::Stores;
+use pr_bodies::Bodies;
+use pr_inval::{Kind, Row, WriteRec};
+use pr_marks::{Marks, Newest};
+use pr_names::Name;
+use pr_sets::NameSet;
+use pr_stamps::{Mark, NoMemory, Stamp};
+use pr_vectors::Vector;
+use std::alloc::Global;
+
+// The start of an invalidation whose points do not follow what a node with this vector was told.
+pub fn gap(kind: &Kind, has: &Vector) -> Option<Vector>
+    ensures { IsGap kind.now has.now result }
+{
+    match kind {
+        Kind::Precise { from, .. } | Kind::Imprecise { from, .. } => {
+            if from.le(has) { None } else { Some(*from) }
+        }
+        Kind::Checkpoint { .. } | Kind::Body { .. } => None,
+    }
+}
+
+// The stores take a message that has no gap.
+pub fn take(alloc: Global, stores: &mut Stores, kind: &Kind) -> Result<(), NoMemory>
+    requires range { IsKind kind.now }
+    requires orderly { IsOrderly kind.now }
+    requires log { Le (from_of kind.now) stores.old.log.vector }
+    requires gaps { stores.old.gaps.vector ≡ stores.old.log.vector }
+    ensures taken { OnOk result (HasTaken stores.old stores.new kind.now) }
+    ensures sets { OnOk result (stores.new.gaps.sets ≡ stores.old.gaps.sets) }
+{
+    match kind {
+        Kind::Precise { from, to, write } => take_precise(alloc, stores, from, to, write),
+        Kind::Imprecise { from, to, target } => take_imprecise(stores, from, to, target),
+        Kind::Checkpoint {
+            to,
+            target,
+            floor,
+            rows,
+        } => take_checkpoint(stores, to, target, floor, rows.as_slice()),
+        Kind::Body { name, stamp, bytes } => take_body(stores, name, stamp, bytes.as_slice()),
+    }
+}
+
+// The name's older bodies are of no more use, so they are dropped.
+fn take_precise(
+    alloc: Global,
+    stores: &mut Stores,
+    from: &Vector,
+    to: &Vector,
+    write: &WriteRec,
+) -> Result<(), NoMemory>
+    requires range { IsKind (Precise from.now to.now write.now) }
+    requires span { Le from.now to.now }
+    requires log { Le from.now stores.old.log.vector }
+    requires gaps { stores.old.gaps.vector ≡ stores.old.log.vector }
+    ensures taken { OnOk result (HasTaken stores.old stores.new (Precise from.now to.now write.now)) }
+    ensures sets { OnOk result (stores.new.gaps.sets ≡ stores.old.gaps.sets) }
+{
+    let none = NameSet::empty(alloc);
+    let mark = Mark {
+        stamp: write.stamp,
+        prev: write.prev,
+    };
+    stores.log.refine(from, to, &none, Some(write))?;
+    stores.gaps.cover(from, to, &none)?;
+    stores.bodies.settle(&write.name, &write.stamp);
+    stores.marks.add(&write.name, &mark, write.gone)?;
+    Ok(())
+}
+
+fn take_imprecise(
+    stores: &mut Stores,
+    from: &Vector,
+    to: &Vector,
+    target: &NameSet,
+) -> Result<(), NoMemory>
+    requires span { Le from.now to.now }
+    requires log { Le from.now stores.old.log.vector }
+    requires gaps { stores.old.gaps.vector ≡ stores.old.log.vector }
+    ensures taken { OnOk result (HasTaken stores.old stores.new (Imprecise from.now to.now target.now)) }
+    ensures sets { OnOk result (stores.new.gaps.sets ≡ stores.old.gaps.sets) }
+{
+    stores.log.refine(from, to, target, None)?;
+    stores.gaps.cover(from, to, target)?;
+    Ok(())
+}
+
+fn take_checkpoint(
+    stores: &mut Stores,
+    to: &Vector,
+    target: &NameSet,
+    floor: &Vector,
+    rows: &[Row],
+) -> Result<(), NoMemory>
+    requires range { IsKind (Checkpoint to.now target.now floor.now rows.now) }
+    requires orderly { IsOrderly (Checkpoint to.now target.now floor.now rows.now) }
+    ensures taken { OnOk result (HasTaken stores.old stores.new (Checkpoint to.now target.now floor.now rows.now)) }
+    ensures sets { OnOk result (stores.new.gaps.sets ≡ stores.old.gaps.sets) }
+{
+    stores.log.darken(to)?;
+    pr_snap::apply(&mut stores.gaps, &mut stores.marks, to, target, floor, rows)?;
+    settle_rows(&mut stores.bodies, rows);
+    Ok(())
+}
+
+fn settle_rows(bodies: &mut Bodies, rows: &[Row])
+    ensures { AreSettled bodies.old bodies.new rows.now }
+{
+    for row in rows {
+        bodies.settle(&row.name, &row.newest);
+    }
+}
+
+fn take_body(stores: &mut Stores, name: &Name, stamp: &Stamp, bytes: &[u8]) -> Result<(), NoMemory>
+    ensures taken { OnOk result (HasTaken stores.old stores.new (Body name.now stamp.now bytes.now)) }
+    ensures sets { OnOk result (stores.new.gaps.sets ≡ stores.old.gaps.sets) }
+{
+    hold(&mut stores.bodies, &stores.marks, name, stamp, bytes)?;
+    Ok(())
+}
+
+// A body of a write that is not the newest is of no use.
+fn hold(
+    bodies: &mut Bodies,
+    marks: &Marks,
+    name: &Name,
+    stamp: &Stamp,
+    bytes: &[u8],
+) -> Result<(), NoMemory>
+    ensures { OnOk result (IsBodyTaken bodies.old bodies.new marks.now name.now stamp.now bytes.now) }
+{
+    if is_late(&marks.newest(name), stamp) {
+        return Ok(());
+    }
+    bodies.put(name, stamp, bytes)?;
+    Ok(())
+}
+
+// Whether the newest stamp is after this one.
+fn is_late(newest: &Option<Newest>, stamp: &Stamp) -> bool
+    ensures { IsTrue result ↔ IsLate newest.now stamp.now }
+{
+    match newest {
+        Some(newest) => stamp.is_before(&newest.stamp),
+        None => false,
+    }
+}

@@ -1,0 +1,4 @@
+// Tests of a node.
+
+mod building;
+mod small;

@@ -1,0 +1,97 @@
+// Small cases at B.
+
+use crate::tests::building::{A, B, body, give, imprecise, is_at, is_orderly, name, node};
+use crate::{Answer, Node};
+use pr_inval::{Msg, NodeFault, Taken};
+use pr_stamps::MAX;
+use pr_vectors::Vector;
+use std::test::Fail;
+
+fn is_worn<T>(answer: &Result<T, NodeFault>) -> bool {
+    match answer {
+        Err(NodeFault::Worn { at }) => *at == MAX,
+        _ => false,
+    }
+}
+
+// Whether a write of the node is refused, since its clock is worn.
+fn write_is_worn(node: &mut Node) -> bool {
+    match name(b"a/x") {
+        Some(name) => is_worn(&node.write(1, 1, &name, b"one", &Vector::zero())),
+        None => false,
+    }
+}
+
+// Whether the message is refused, since the node's time would be worn.
+fn message_is_worn(node: &mut Node, msg: Msg) -> bool {
+    if msg.time > MAX {
+        return false;
+    }
+    if !is_orderly(&msg.kind) {
+        return false;
+    }
+    is_worn(&node.accept(1, msg))
+}
+
+// Whether the node has done nothing.
+fn is_new(node: &Node) -> bool {
+    node.journal().len() == 0 && node.vector() == Vector::zero() && !node.is_spent()
+}
+
+fn is_accepted(taken: &Option<Taken>) -> bool {
+    match taken {
+        Some(Taken::Accepted { .. }) => true,
+        _ => false,
+    }
+}
+
+#[test]
+fn a_clock_wears_out(rt: HostRuntime) -> Result<(), Fail> {
+    let mut node = node(rt.alloc(), B, b"~", b"~").ok_or("a node")?;
+    let msg = imprecise(rt.alloc(), 5, MAX, b"~").ok_or("a message")?;
+    assert!(rt; is_accepted(&give(&mut node, 1, msg)));
+    assert!(rt; write_is_worn(&mut node));
+    Ok(())
+}
+
+#[test]
+fn a_time_wears_out(rt: HostRuntime) -> Result<(), Fail> {
+    let mut node = node(rt.alloc(), B, b"~", b"~").ok_or("a node")?;
+    let msg = body(rt.alloc(), MAX, b"a/x", 1).ok_or("a message")?;
+    assert!(rt; message_is_worn(&mut node, msg));
+    assert!(rt; is_new(&node));
+    Ok(())
+}
+
+fn is_never(node: &Node, o: &[u8]) -> bool {
+    match name(o) {
+        Some(name) => !node.is_spent() && matches!(node.look(&name), Answer::Never),
+        None => false,
+    }
+}
+
+// Whether the node answers that it was not told of this clock of A.
+fn is_untold(node: &Node, o: &[u8], clock: u64) -> bool {
+    match name(o) {
+        Some(name) => !node.is_spent() && is_imprecise(&node.look(&name), clock),
+        None => false,
+    }
+}
+
+fn is_imprecise(answer: &Answer<'_>, clock: u64) -> bool {
+    match answer {
+        Answer::Imprecise { untold } => is_at(untold, clock, A),
+        _ => false,
+    }
+}
+
+#[test]
+fn a_point_of_a_set_is_untold(rt: HostRuntime) -> Result<(), Fail> {
+    let mut node = node(rt.alloc(), B, b"a/*", b"~").ok_or("a node")?;
+    let msg = imprecise(rt.alloc(), 1, 1, b"a/x").ok_or("a message")?;
+    assert!(rt; is_never(&node, b"a/x"));
+    assert!(rt; is_accepted(&give(&mut node, 1, msg)));
+    assert!(rt; is_untold(&node, b"a/x", 1));
+    assert!(rt; is_never(&node, b"b"));
+    Ok(())
+}

@@ -1,0 +1,121 @@
+// The turn of a stream at its source.
+ghost use Rattle.pr_inval.specs.Standing.{means};
+ghost use Rattle.pr_inval.specs.declared.kind.Kind.{Kind};
+ghost use Rattle.pr_node.specs.Calls.{HasGoneOn};
+ghost use Rattle.pr_node.specs.Sending.{IsKindOrNone, IsNextKind, IsNextStep, IsStepInRange, IsStepOf, event_of};
+ghost use Rattle.pr_node.specs.Ties.{IsTied};
+ghost use Rattle.pr_story.specs.Ranges.{IsKind, IsMsg};
+ghost use Rattle.pr_story.specs.declared.entry.Entry.{Entry};
+ghost use Rattle.pr_story.specs.declared.event.Event.TheVariants.{Sent};
+ghost use Rattle.pr_vectors.specs.Vector.{Le};
+ghost use Rattle.std.specs.Prelude.{◌≡◌, ◌≤◌, ◌<◌, ◌+◌, ℕ, List, IfOk, IsTrue};
+
+use crate::Stores;
+use crate::ahead::ahead;
+use crate::waiting_bodies::next_body;
+use pr_inval::{Kind, Msg, Session, Step};
+use pr_stamps::NoMemory;
+use pr_story::Event;
+use std::alloc::Global;
+
+// What the source of a stream with this session does next.
+pub fn next_step(
+    alloc: Global,
+    stores: &Stores,
+    session: &Session,
+    time: u64,
+) -> Result<Step, NoMemory>
+    ensures next { IfOk result (λ step. (n : ℕ) (j : List Entry) → IsTied n j stores.now → IsNextStep n j (means session.now) time step) }
+    ensures range { IfOk result IsStepInRange }
+{
+    let cut = stores.log.cut_at();
+    if !cut.le(&session.pos()) {
+        return Ok(Step::Stale { cut });
+    }
+    match next_kind(alloc, stores, session)? {
+        Some(kind) => Ok(Step::Sent(message(session, kind, time))),
+        None => Ok(Step::Idle),
+    }
+}
+
+// What is sent, if anything is, where the position is not behind the cut.
+fn next_kind(alloc: Global, stores: &Stores, session: &Session) -> Result<Option<Kind>, NoMemory>
+    requires { Le stores.now.log.cut (means session.now).standing.position }
+    ensures next { IfOk result (λ kind. (n : ℕ) (j : List Entry) → IsTied n j stores.now → IsNextKind n j (means session.now).standing kind) }
+    ensures range { IfOk result IsKindOrNone }
+{
+    let position = session.pos();
+    if !stores.log.vector().le(&position) {
+        let kind = ahead(alloc, &stores.log, session.sub(), &position)?;
+        return Ok(Some(kind));
+    }
+    if session.bodies() {
+        return next_body(alloc, stores, session);
+    }
+    Ok(None)
+}
+
+// The session's next message.
+pub fn message(session: &Session, kind: Kind, time: u64) -> Msg
+    requires { IsKind kind }
+    ensures stream { result.stream ≡ (means session.now).stream }
+    ensures number { result.number ≡ (means session.now).standing.number + 1 }
+    ensures time { result.time ≡ time }
+    ensures kind { result.kind ≡ kind }
+    ensures range { IsMsg result }
+{
+    let _ = session.time();
+    Msg {
+        time,
+        stream: session.stream(),
+        number: session.number() + 1,
+        kind,
+    }
+}
+
+// The event of a stream's turn, with a copy of the message.
+pub fn event_of(alloc: Global, step: &Step, stream: u32) -> Result<Event, NoMemory>
+    ensures { IfOk result (λ event. event ≡ event_of stream step.now) }
+{
+    match step {
+        Step::Sent(msg) => {
+            let msg = msg.copy(alloc)?;
+            Ok(Event::Sent { msg })
+        }
+        Step::Idle => Ok(Event::Idle { stream }),
+        Step::Stale { cut } => Ok(Event::Stale { stream, cut: *cut }),
+    }
+}
+
+// The session notes its turn at this time. It takes no memory.
+pub fn note(session: &mut Session, step: &Step, time: u64)
+    requires attached { IsTrue (means session.old).attached }
+    requires later { (means session.old).standing.time < time }
+    requires most { time ≤ 4611686018427387903 }
+    requires room { 0 < (means session.old).room }
+    requires stream { IsStepOf (means session.old).stream step.now }
+    ensures { (caller : ℕ) → HasGoneOn (means session.old) (means session.new) (means session.old).attached (record { time = time; caller = caller; event = event_of (means session.old).stream step.now }) }
+{
+    match step {
+        Step::Sent(msg) => note_sent(session, &msg.kind, time),
+        Step::Idle => session.heard(time),
+        Step::Stale { .. } => session.heard(time),
+    }
+}
+
+// The session notes a message that was sent.
+pub fn note_sent(session: &mut Session, kind: &Kind, time: u64)
+    requires attached { IsTrue (means session.old).attached }
+    requires later { (means session.old).standing.time < time }
+    requires most { time ≤ 4611686018427387903 }
+    requires room { 0 < (means session.old).room }
+    ensures { (caller : ℕ) (msg : Msg) → msg.kind ≡ kind.now → msg.stream ≡ (means session.old).stream → HasGoneOn (means session.old) (means session.new) (means session.old).attached (record { time = time; caller = caller; event = Sent msg }) }
+{
+    let _ = session.pos();
+    match kind {
+        Kind::Body { name, stamp, .. } => session.sent_body(name, stamp, time),
+        Kind::Precise { to, .. } => session.sent(to, time),
+        Kind::Imprecise { to, .. } => session.sent(to, time),
+        Kind::Checkpoint { to, .. } => session.sent(to, time),
+    }
+}
