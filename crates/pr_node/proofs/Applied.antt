@@ -18,6 +18,7 @@ use Rattle.pr_node.specs.Ties.{IsTied}
 use Rattle.std.proofs.lemmas.List.Elements.{Contains-append_left, Contains-append_right}
 use Rattle.pr_story.proofs.NewestFirst.{with_next, with_whole}
 use Rattle.pr_story.proofs.Sorted.{is_first}
+use Rattle.pr_wire.specs.Messages.{IsKind as IsKindOfGrammar}
 use Rattle.pr_node.proofs.Logs.{dark_log}
 use Rattle.pr_node.proofs.Points.{covered_gaps}
 use Rattle.pr_node.proofs.Held.{body_step, settled_or}
@@ -42,10 +43,10 @@ pub settled_all : (a b : Held) (rows : List Row) (i : ℕ) → length rows ≤ i
 settled_all a b rows i le old = with_whole (λ (rs : List Row). AreSettled a b rs) rows i le old
 
 pub checkpoint_tied : (n : ℕ) (j : List Entry) (a b : Stores) (time caller : ℕ) (msg : Msg) (at to : List ℕ) (target : List Span) (floor : List ℕ) (rows : List Row)
-    → msg.kind ≡ Checkpoint to target floor rows → IsKind (Checkpoint to target floor rows) → IsOrderly (Checkpoint to target floor rows) → IsTied n j a
+    → msg.kind ≡ Checkpoint to target floor rows → IsKindOfGrammar (Checkpoint to target floor rows) → IsKind (Checkpoint to target floor rows) → IsOrderly (Checkpoint to target floor rows) → IsTied n j a
     → IsDarkened a.log b.log to → IsApplied a.gaps b.gaps a.marks b.marks to target floor rows → AreSettled a.bodies b.bodies rows
     → IsTied n (record { time = time; caller = caller; event = Accepted msg at } ∷ j) b
-checkpoint_tied n j a b time caller msg at to target floor rows is range orderly f dark applied settled =
+checkpoint_tied n j a b time caller msg at to target floor rows is grammar range orderly f dark applied settled =
     let k : Kind = Checkpoint to target floor rows in
     let e : Entry = record { time = time; caller = caller; event = Accepted msg at } in
     record {
@@ -56,4 +57,5 @@ checkpoint_tied n j a b time caller msg at to target floor rows is range orderly
         | inr r ↦ absurd (latest r.0.newest (inl (inr (r.0, subst (λ (q : Kind). HasRow q r.0) (sym is) r.1, r.2, refl))) r.3)
       ] ∙ sym (same_body msg at k o t (held a.bodies o t) (held a.bodies o t) is refl)) f.bodies;
       marks = applied_marks j a.marks b.marks time caller msg at to target floor rows is range.2 range.3 orderly f.marks applied.floor applied.newest applied.marks;
+      spelled = (subst (λ (q : Kind). IsKindOfGrammar q) (sym is) grammar, f.spelled);
     }

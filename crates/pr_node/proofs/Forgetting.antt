@@ -71,6 +71,7 @@ cut_tied n j a b time caller at range is f cut gone same_g same_b =
       gaps = subst (λ g. IsGapsOf n (e ∷ j) g) (sym same_g) (same_gaps n e j a.gaps (λ k. refl) (λ k p acc c. acc) f.gaps);
       bodies = subst (λ h. IsBodiesOf (e ∷ j) h) (sym same_b) (body_step e j a.bodies a.bodies (λ o t latest. refl) f.bodies);
       marks = cut_marks j a.marks b.marks time caller at range f.marks gone;
+      spelled = (is ∙ f.log.vector, f.spelled);
     }
 
 pub dropped_tied : (n : ℕ) (j : List Entry) (a b : Stores) (time caller : ℕ) (name : List ℕ) → IsTied n j a → IsDroppedAll a.bodies b.bodies name → b.log ≡ a.log → b.gaps ≡ a.gaps → b.marks ≡ a.marks
@@ -82,4 +83,5 @@ dropped_tied n j a b time caller name f dropped same_l same_g same_m =
       gaps = subst (λ g. IsGapsOf n (e ∷ j) g) (sym same_g) (same_gaps n e j a.gaps (λ k. refl) (λ k p acc c. acc) f.gaps);
       bodies = body_step e j a.bodies b.bodies (λ o t latest. dropped o t) f.bodies;
       marks = subst (λ m. IsMarksOf (e ∷ j) m) (sym same_m) (same_marks e j a.marks f.marks refl (λ o s t. t) (λ o s. refl));
+      spelled = (tt, f.spelled);
     }

@@ -53,4 +53,5 @@ fresh_tied n j s sets empty apart log gaps bodies marks = subst (λ (x : List En
     from_one = λ o s none. refl;
     marks = λ o s. none_either (is_covered zero_vector s);
   });
+  spelled = tt;
 })

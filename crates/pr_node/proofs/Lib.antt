@@ -11,6 +11,7 @@ pub mod Refining
 pub mod Bodies
 pub mod Checkpoints
 pub mod Applied
+pub mod Spelled
 pub mod Adding
 pub mod Forgetting
 pub mod Finding

@@ -1,11 +1,11 @@
 -- The write that a node makes next.
-use Rattle.std.proofs.Common.{◌≡◌, ℕ, ◌<◌, ◌≤◌, ◌+◌, List, refl, sym, ◌∙◌, ap, subst, arith}
+use Rattle.std.proofs.Common.{◌≡◌, ℕ, ◌<◌, ◌≤◌, ◌+◌, List, refl, sym, ◌∙◌, ap, subst, arith, inl, inr}
 use Rattle.std.specs.Prelude.{Bool, Option, None, Some}
 use Rattle.std.specs.Option.{option_map}
 use Rattle.pr_stamps.specs.Point.{Point, IsStamp}
 use Rattle.pr_inval.specs.declared.write_rec.WriteRec.{WriteRec}
 use Rattle.pr_names.specs.Name.{IsName}
-use Rattle.pr_vectors.specs.Vector.{clock_of, IsVector}
+use Rattle.pr_vectors.specs.Vector.{clock_of, Covers, IsVector}
 use Rattle.pr_vectors.proofs.Vectors.{clock_of-vector_of}
 use Rattle.pr_marks.specs.declared.newest.Newest.{Newest}
 use Rattle.pr_marks.specs.Table.{Table, newest_of}
@@ -15,7 +15,11 @@ use Rattle.pr_story.specs.Knowledge.{IsNewestKnown}
 use Rattle.pr_story.specs.Ranges.{IsStampOrNone}
 use Rattle.pr_story.specs.Search.{IsNewestOf}
 use Rattle.pr_node.specs.Ties.{IsMarksOf, named}
+use Rattle.pr_node.specs.Grammar.{IsSpelled}
 use Rattle.pr_node.specs.Writes.{IsClockWornIn, IsNextOwn}
+use Rattle.pr_node.proofs.Clocks.{clock_out, below_or_not}
+use Rattle.pr_node.proofs.Spelled.{named_covered}
+use Rattle.pr_wire.specs.Messages.{IsPrev}
 
 clock_is : (j : List Entry) (v : List ℕ) (w : ℕ) → v ≡ current_vector j → w < 32 → clock_of v w ≡ current_clock j w
 clock_is j v w is lt = ap (λ (x : List ℕ). clock_of x w) is ∙ clock_of-vector_of (current_clock j) w lt
@@ -38,9 +42,9 @@ newest_known j m o newest f is = by newest (f.newest o) is
 
 pub next_own : (n : ℕ) (j : List Entry) (v name : List ℕ) (gone : Bool) (great clock : ℕ) (stamp : Point) (prev : Option Point)
     → v ≡ current_vector j → ((w : ℕ) → w < 32 → clock_of v w ≤ great) → ((w : ℕ) × (w < 32) × (clock_of v w ≡ great))
-    → clock ≡ great + 1 → stamp ≡ record { clock = clock; node = n } → IsStamp stamp → IsName name → IsStampOrNone prev → IsNewestKnown j name prev
+    → clock ≡ great + 1 → stamp ≡ record { clock = clock; node = n } → IsStamp stamp → IsName name → IsStampOrNone prev → IsNewestKnown j name prev → IsSpelled j
     → IsNextOwn n j name gone (record { name = name; stamp = stamp; prev = prev; gone = gone })
-next_own n j v name gone great clock stamp prev is most held next at range is_name before newest =
+next_own n j v name gone great clock stamp prev is most held next at range is_name before newest spelled =
     let c : stamp.clock ≡ great + 1 = ap (λ (p : Point). p.clock) at ∙ next in
     record {
       is_name = refl;
@@ -50,7 +54,18 @@ next_own n j v name gone great clock stamp prev is most held next at range is_na
       after_all = λ w lt. let e : clock_of v w ≡ current_clock j w = clock_is j v w is lt in let m : clock_of v w ≤ great = most w lt in omega (arith, c, e, m);
       next = (held.0, held.1, c ∙ ap (λ (k : ℕ). k + 1) (sym held.2 ∙ clock_is j v held.0 is held.1));
       newest = newest;
+      before = follows prev before newest (λ q named. let lt : q.node < 32 = named.1 in let m : clock_of v q.node ≤ great = most q.node lt in let e : clock_of v q.node ≡ current_clock j q.node = clock_is j v q.node is lt in let k : q.clock ≤ current_clock j q.node = named.0 in omega (arith, c, e, m, k));
     }
+  where
+    known_node : (q : Point) → Covers (current_vector j) q → (q.clock ≤ current_clock j q.node) × (q.node < 32)
+    known_node q c = elim (below_or_not q.node 32) [
+      | inl lt ↦ let e : clock_of (current_vector j) q.node ≡ current_clock j q.node = clock_of-vector_of (current_clock j) q.node lt in (omega (arith, e, c.1), lt)
+      | inr out ↦ let z : clock_of (current_vector j) q.node ≡ 0 = clock_out (current_clock j) q.node out in absurd (omega (arith, z, c.0, c.1))
+    ]
+
+    follows : (prev : Option Point) → IsStampOrNone prev → IsNewestKnown j name prev → ((q : Point) → (q.clock ≤ current_clock j q.node) × (q.node < 32) → q.clock < stamp.clock) → IsPrev prev stamp
+    follows None range known less = tt
+    follows (Some q) range known less = (range, inl (less q (known_node q (named_covered j spelled name q known.0))))
 
 pub own_above : (n : ℕ) (j : List Entry) (v name : List ℕ) (gone : Bool) (write : WriteRec) → n < 32 → v ≡ current_vector j → IsNextOwn n j name gone write → clock_of v write.stamp.node < write.stamp.clock
 own_above n j v name gone write id is own =

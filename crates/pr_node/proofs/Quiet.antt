@@ -12,6 +12,7 @@ use Rattle.pr_story.specs.History.{Accepts, clock_brought}
 use Rattle.pr_story.specs.Knowledge.{TellsOf, body_after, cut_in, floor_after, mark_told}
 use Rattle.pr_story.specs.Search.{IsNewestIn}
 use Rattle.pr_node.specs.declared.stores.Stores.{Stores}
+use Rattle.pr_node.specs.Grammar.{IsSpelledEvent}
 use Rattle.pr_node.specs.Quiet.{IsQuiet}
 use Rattle.pr_node.specs.Ties.{IsTied}
 use Rattle.pr_node.proofs.Logs.{same_log}
@@ -45,6 +46,12 @@ facts _ q = record {
   floor = refl;
 }
 
+quiet_spelled : (j : List Entry) (event : Event) → IsQuiet event → IsSpelledEvent j event
+quiet_spelled j (Wrote client write body after) q = absurd q
+quiet_spelled j (Accepted msg at) q = absurd q
+quiet_spelled j (Cut at) q = absurd q
+quiet_spelled j _ q = tt
+
 pub quiet_tied : (n : ℕ) (e : Entry) (j : List Entry) (s : Stores) → IsQuiet e.event → IsTied n j s → IsTied n (e ∷ j) s
 quiet_tied n e j s quiet f =
     let q : Facts e.event = facts e.event quiet in
@@ -53,4 +60,5 @@ quiet_tied n e j s quiet f =
       gaps = same_gaps n e j s.gaps q.brought (λ k p a c. q.accepts k a) f.gaps;
       bodies = body_step e j s.bodies s.bodies (λ o t latest. sym (q.body o t _)) f.bodies;
       marks = same_marks e j s.marks f.marks q.floor q.names q.marks;
+      spelled = (quiet_spelled j e.event quiet, f.spelled);
     }

@@ -21,6 +21,7 @@ use Rattle.pr_story.specs.Search.{IsNewestIn}
 use Rattle.pr_story.proofs.NewestNow.{accepted_newest}
 use Rattle.pr_node.specs.declared.stores.Stores.{Stores}
 use Rattle.pr_node.specs.Ties.{IsTied, IsMarksOf, IsMarkInRange}
+use Rattle.pr_wire.specs.Messages.{IsKind as IsKindOfGrammar}
 use Rattle.pr_node.proofs.Logs.{refined_log, some_same}
 use Rattle.pr_node.proofs.Points.{covered_gaps}
 use Rattle.pr_node.proofs.Held.{body_step, settled_by}
@@ -44,10 +45,10 @@ no_newest msg at k o is of rows = λ s t. elim t [
 -- ---- invalidations
 
 pub precise_tied : (n : ℕ) (j : List Entry) (a b : Stores) (time caller : ℕ) (msg : Msg) (at from to : List ℕ) (none : List Span) (write : WriteRec)
-    → none ≡ [] → msg.kind ≡ Precise from to write → IsMarkInRange (mark_of write) → IsTied n j a
+    → none ≡ [] → msg.kind ≡ Precise from to write → IsKindOfGrammar (Precise from to write) → IsMarkInRange (mark_of write) → IsTied n j a
     → IsRefined a.log b.log from to none (Some write) → IsCovered a.gaps b.gaps from to none → IsSettled a.bodies b.bodies write.name write.stamp → IsMarked a.marks b.marks write.name (mark_of write) write.gone
     → IsTied n (record { time = time; caller = caller; event = Accepted msg at } ∷ j) b
-precise_tied n j a b time caller msg at from to none write empty is range f refined covered settled marked =
+precise_tied n j a b time caller msg at from to none write empty is grammar range f refined covered settled marked =
     let k : Kind = Precise from to write in
     let e : Entry = record { time = time; caller = caller; event = Accepted msg at } in
     record {
@@ -60,13 +61,14 @@ precise_tied n j a b time caller msg at from to none write empty is range f refi
           (λ o r only. accepted_newest msg at from to write o r is only)
           (λ o s. same_mark msg at k o s (cond (is_this write.name write.stamp o s) (Some (mark_of write)) None) is refl)
           (ap floor_in is);
+      spelled = (subst (λ (q : Kind). IsKindOfGrammar q) (sym is) grammar, f.spelled);
     }
 
 pub imprecise_tied : (n : ℕ) (j : List Entry) (a b : Stores) (time caller : ℕ) (msg : Msg) (at from to : List ℕ) (target : List Span)
-    → msg.kind ≡ Imprecise from to target → IsTied n j a
+    → msg.kind ≡ Imprecise from to target → IsKindOfGrammar (Imprecise from to target) → IsTied n j a
     → IsRefined a.log b.log from to target None → IsCovered a.gaps b.gaps from to target → b.bodies ≡ a.bodies → b.marks ≡ a.marks
     → IsTied n (record { time = time; caller = caller; event = Accepted msg at } ∷ j) b
-imprecise_tied n j a b time caller msg at from to target is f refined covered bodies marks =
+imprecise_tied n j a b time caller msg at from to target is grammar f refined covered bodies marks =
     let k : Kind = Imprecise from to target in
     let e : Entry = record { time = time; caller = caller; event = Accepted msg at } in
     record {
@@ -76,4 +78,5 @@ imprecise_tied n j a b time caller msg at from to target is f refined covered bo
       marks = subst (λ (m : Table). IsMarksOf (e ∷ j) m) (sym marks) (same_marks e j a.marks f.marks (ap floor_in is)
           (λ o. no_newest msg at k o is (λ x q. absurd q) (λ row q. absurd q))
           (λ o s. same_mark msg at k o s None is refl));
+      spelled = (subst (λ (q : Kind). IsKindOfGrammar q) (sym is) grammar, f.spelled);
     }

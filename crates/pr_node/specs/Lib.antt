@@ -1,3 +1,4 @@
+pub mod Grammar
 pub mod Stored
 pub mod Ties
 pub mod Writes

@@ -21,6 +21,7 @@ use Rattle.pr_story.specs.declared.plain.named.Named.{Named}
 use Rattle.pr_story.specs.Ranges.{IsStampOrNone}
 use Rattle.pr_story.specs.Search.{IsNewestOf}
 use Rattle.pr_node.specs.declared.stores.Stores.{Stores}
+use Rattle.pr_node.specs.Grammar.{IsSpelled}
 
 -- where the cut covers a point, nothing is said of the names that are lit there
 pub record IsLogOf (n : ℕ) (j : List Entry) (m : Logged) : Type 0 where
@@ -65,3 +66,4 @@ pub record IsTied (n : ℕ) (j : List Entry) (s : Stores) : Type 0 where
   pub gaps : IsGapsOf n j s.gaps
   pub bodies : IsBodiesOf j s.bodies
   pub marks : IsMarksOf j s.marks
+  pub spelled : IsSpelled j

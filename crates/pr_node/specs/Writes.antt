@@ -8,6 +8,7 @@ use Rattle.pr_story.specs.declared.entry.Entry.{Entry}
 use Rattle.pr_story.specs.History.{current_clock}
 use Rattle.pr_story.specs.Knowledge.{IsNewestKnown}
 use Rattle.pr_story.specs.Ranges.{IsWrite}
+use Rattle.pr_wire.specs.Messages.{IsPrev}
 
 -- the write that node n makes next
 pub record IsNextOwn (n : ℕ) (j : List Entry) (name : List ℕ) (gone : Bool) (write : WriteRec) : Type 0 where
@@ -18,6 +19,7 @@ pub record IsNextOwn (n : ℕ) (j : List Entry) (name : List ℕ) (gone : Bool) 
   pub after_all : (w : ℕ) → w < 32 → current_clock j w < write.stamp.clock
   pub next : (w : ℕ) × (w < 32) × (write.stamp.clock ≡ current_clock j w + 1)
   pub newest : IsNewestKnown j name write.prev
+  pub before : IsPrev write.prev write.stamp
 
 -- the node's vector has the greatest clock
 abbrev pub IsClockWornIn : List Entry → Type 0

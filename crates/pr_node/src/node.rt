@@ -1,9 +1,10 @@
 // A node.
 ghost use Rattle.pr_node.specs.Answering.{IsAnswerAt, reply_of};
 ghost use Rattle.pr_node.specs.Calls.{AddsAlone, AddsOfClient, AddsOfStream, HasGoneOn, IsAttachedAt, IsCheckpointSent, IsDone, IsDownFor, IsFault, IsMissed, IsMoveOf, IsSeen, IsStateEvent, IsStep, IsTaken, IsTimeWorn, IsWriteWorn};
-ghost use Rattle.pr_node.specs.Taking.{IsOrderly};
+ghost use Rattle.pr_node.specs.Grammar.{IsStepSpelled};
 ghost use Rattle.pr_story.specs.History.{current_vector};
 ghost use Rattle.pr_vectors.specs.Vector.{IsVector};
+ghost use Rattle.pr_wire.specs.Messages.{IsMessage};
 ghost use Rattle.pr_inval.specs.declared.msg.Msg.{Msg};
 ghost use Rattle.pr_node.specs.Stored.{means};
 ghost use Rattle.pr_node.specs.Ties.{AreApart};
@@ -187,8 +188,7 @@ impl Node {
     /// 3.2). It takes the time of the stores' calls: what stands between the points of an invalidation, and the rows of a
     /// checkpoint. The name's bodies that a later write makes useless are dropped.
     pub fn accept(&mut self, caller: u32, msg: Msg) -> Result<Taken, NodeFault>
-        requires early { msg.time ≤ 4611686018427387903 }
-        requires orderly { IsOrderly msg.kind }
+        requires { IsMessage msg }
         ensures ok { IfOk result (λ taken. AddsAlone (means self.old) (means self.new) caller (IsTaken msg taken)) }
         ensures fault { IfErr result (IsFault (means self.old) (means self.new) (IsTimeWorn (means self.old) msg.time)) }
         ensures spent { self.old.spent ≡ true → result ≡ Err faults.NoMemory }
@@ -325,12 +325,14 @@ impl Node {
     /// one that it sends.
     pub fn turn(&mut self, caller: u32, session: &mut Session) -> Result<Step, NodeFault>
         requires { IsTrue (Standing.means session.old).attached }
+        ensures grammar { IfOk result IsStepSpelled }
         ensures ok { IfOk result (λ step. AddsOfStream (means self.old) (means self.new) (Standing.means session.old).standing caller (λ e. IsStep (Standing.means session.old).stream step e × HasGoneOn (Standing.means session.old) (Standing.means session.new) true e)) }
         ensures session { OnErr result (IsSameSession (Standing.means session.old) (Standing.means session.new)) }
         ensures fault { IfErr result (IsFault (means self.old) (means self.new) (IsTimeWorn (means self.old) (Standing.means session.old).standing.time)) }
         ensures spent { self.old.spent ≡ true → result ≡ Err faults.NoMemory }
     {
         let time = self.diary.begin(session.time())?;
+        let _ = session.number();
         session.room()?;
         let step = next_step(self.alloc, &self.stores, session, time)?;
         let event = event_of(self.alloc, &step, session.stream())?;
@@ -343,12 +345,14 @@ impl Node {
     /// the node's vector. It takes the time of `pr_snap::build`.
     pub fn checkpoint(&mut self, caller: u32, session: &mut Session) -> Result<Msg, NodeFault>
         requires { IsTrue (Standing.means session.old).attached }
+        ensures grammar { IfOk result IsMessage }
         ensures ok { IfOk result (λ msg. AddsOfStream (means self.old) (means self.new) (Standing.means session.old).standing caller (λ e. IsCheckpointSent (Standing.means session.old).stream msg e × HasGoneOn (Standing.means session.old) (Standing.means session.new) true e)) }
         ensures session { OnErr result (IsSameSession (Standing.means session.old) (Standing.means session.new)) }
         ensures fault { IfErr result (IsFault (means self.old) (means self.new) (IsTimeWorn (means self.old) (Standing.means session.old).standing.time)) }
         ensures spent { self.old.spent ≡ true → result ≡ Err faults.NoMemory }
     {
         let time = self.diary.begin(session.time())?;
+        let _ = session.number();
         let kind = snapshot(self.alloc, &self.stores, session.sub())?;
         let msg = message(session, kind, time);
         let sent = msg.copy(self.alloc)?;

@@ -4,6 +4,7 @@ ghost use Rattle.pr_inval.specs.declared.kind.Kind.TheVariants.{Body, Checkpoint
 ghost use Rattle.pr_node.specs.Taking.{AreSettled, HasTaken, IsBodyTaken, IsGap, IsLate, IsOrderly};
 ghost use Rattle.pr_story.specs.Ranges.{IsKind};
 ghost use Rattle.pr_vectors.specs.Vector.{Le};
+ghost use Rattle.pr_wire.specs.Messages.{IsKind as IsKindOfGrammar};
 ghost use Rattle.std.specs.Prelude.{◌≡◌, ◌↔◌, IsTrue, OnOk};
 
 use crate::Stores;
@@ -32,6 +33,7 @@ pub fn gap(kind: &Kind, has: &Vector) -> Option<Vector>
 pub fn take(alloc: Global, stores: &mut Stores, kind: &Kind) -> Result<(), NoMemory>
     requires range { IsKind kind.now }
     requires orderly { IsOrderly kind.now }
+    requires grammar { IsKindOfGrammar kind.now }
     requires log { Le (from_of kind.now) stores.old.log.vector }
     requires gaps { stores.old.gaps.vector ≡ stores.old.log.vector }
     ensures taken { OnOk result (HasTaken stores.old stores.new kind.now) }
@@ -59,6 +61,7 @@ fn take_precise(
     write: &WriteRec,
 ) -> Result<(), NoMemory>
     requires range { IsKind (Precise from.now to.now write.now) }
+    requires grammar { IsKindOfGrammar (Precise from.now to.now write.now) }
     requires span { Le from.now to.now }
     requires log { Le from.now stores.old.log.vector }
     requires gaps { stores.old.gaps.vector ≡ stores.old.log.vector }
@@ -83,6 +86,7 @@ fn take_imprecise(
     to: &Vector,
     target: &NameSet,
 ) -> Result<(), NoMemory>
+    requires grammar { IsKindOfGrammar (Imprecise from.now to.now target.now) }
     requires span { Le from.now to.now }
     requires log { Le from.now stores.old.log.vector }
     requires gaps { stores.old.gaps.vector ≡ stores.old.log.vector }
@@ -103,6 +107,7 @@ fn take_checkpoint(
 ) -> Result<(), NoMemory>
     requires range { IsKind (Checkpoint to.now target.now floor.now rows.now) }
     requires orderly { IsOrderly (Checkpoint to.now target.now floor.now rows.now) }
+    requires grammar { IsKindOfGrammar (Checkpoint to.now target.now floor.now rows.now) }
     ensures taken { OnOk result (HasTaken stores.old stores.new (Checkpoint to.now target.now floor.now rows.now)) }
     ensures sets { OnOk result (stores.new.gaps.sets ≡ stores.old.gaps.sets) }
 {
@@ -121,6 +126,7 @@ fn settle_rows(bodies: &mut Bodies, rows: &[Row])
 }
 
 fn take_body(stores: &mut Stores, name: &Name, stamp: &Stamp, bytes: &[u8]) -> Result<(), NoMemory>
+    requires grammar { IsKindOfGrammar (Body name.now stamp.now bytes.now) }
     ensures taken { OnOk result (HasTaken stores.old stores.new (Body name.now stamp.now bytes.now)) }
     ensures sets { OnOk result (stores.new.gaps.sets ≡ stores.old.gaps.sets) }
 {

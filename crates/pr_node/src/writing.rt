@@ -6,8 +6,9 @@ ghost use Rattle.pr_story.specs.Ranges.{IsStampOrNone};
 ghost use Rattle.pr_story.specs.declared.entry.Entry.{Entry};
 ghost use Rattle.pr_story.specs.declared.event.Event.TheVariants.{Wrote};
 ghost use Rattle.pr_vectors.specs.Vector.{clock_of};
+ghost use Rattle.pr_wire.specs.Messages.{IsPrev};
 ghost use Rattle.std.specs.Option.{option_map};
-ghost use Rattle.std.specs.Prelude.{◌≡◌, ◌<◌, ◌∷◌, ℕ, List, false, None, IfSome, OnOk};
+ghost use Rattle.std.specs.Prelude.{◌≡◌, ◌<◌, ◌∷◌, ℕ, List, false, None, IfSome, OnOk, length, ◌≤◌};
 
 use crate::Stores;
 use pr_bodies::Bodies;
@@ -49,7 +50,9 @@ fn stamp_of(newest: &Option<Newest>) -> Option<Stamp>
 
 // The stores take a write of their own node. The body of a delete is not held.
 pub fn keep_write(stores: &mut Stores, write: &WriteRec, body: &[u8]) -> Result<(), NoMemory>
-    requires before { IsStampOrNone write.now.prev }
+    requires range { IsStampOrNone write.now.prev }
+    requires before { IsPrev write.now.prev write.now.stamp }
+    requires short { length body.now ≤ 65536 }
     requires own { write.now.stamp.node ≡ stores.old.log.node }
     requires above { clock_of stores.old.log.vector write.now.stamp.node < write.now.stamp.clock }
     ensures tied { OnOk result ((j : List Entry) (time caller client : ℕ) (after : List ℕ) → IsTied write.now.stamp.node j stores.old → IsTied write.now.stamp.node (record { time = time; caller = caller; event = Wrote client write.now body.now after } ∷ j) stores.new) }

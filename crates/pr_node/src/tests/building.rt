@@ -1,9 +1,10 @@
 // What the tests are made of.
-ghost use Rattle.pr_node.specs.Taking.{IsOrderly};
 ghost use Rattle.pr_node.specs.Ties.{AreApart};
+ghost use Rattle.pr_wire.specs.Messages.{IsKind, IsMessage};
 ghost use Rattle.std.specs.Prelude.{◌≡◌, ◌∷◌, [], IfSome, IsTrue};
 
 use crate::Node;
+use crate::ranges::kind_in_range;
 use pr_inval::{Kind, Msg, Taken};
 use pr_names::Name;
 use pr_sets::NameSet;
@@ -69,24 +70,40 @@ pub fn node(alloc: Global, id: u32, first: &[u8], second: &[u8]) -> Option<Node>
 
 // ---- messages
 
-// Whether the message's start is at most its end. Checkpoints are left out.
-pub fn is_orderly(kind: &Kind) -> bool
-    ensures { IsTrue result → IsOrderly kind.now }
+// Whether the message is one of the grammar. Precise ones and checkpoints are left out.
+pub fn is_of_grammar(msg: &Msg) -> bool
+    ensures { IsTrue result → IsMessage msg.now }
 {
+    if msg.time == 0 {
+        return false;
+    }
+    if msg.time > MAX {
+        return false;
+    }
+    if msg.number == 0 {
+        return false;
+    }
+    if msg.number > MAX {
+        return false;
+    }
+    is_kind(&msg.kind)
+}
+
+fn is_kind(kind: &Kind) -> bool
+    ensures { IsTrue result → IsKind kind.now }
+{
+    kind_in_range(kind);
     match kind {
-        Kind::Precise { from, to, .. } => from.le(to),
         Kind::Imprecise { from, to, .. } => from.le(to),
+        Kind::Body { bytes, .. } => bytes.len() <= 65536,
+        Kind::Precise { .. } => false,
         Kind::Checkpoint { .. } => false,
-        Kind::Body { .. } => true,
     }
 }
 
-// Gives the message to the node, if it is such as a wire may deliver.
+// Gives the message to the node, if it is one of the grammar.
 pub fn give(node: &mut Node, caller: u32, msg: Msg) -> Option<Taken> {
-    if msg.time > MAX {
-        return None;
-    }
-    if !is_orderly(&msg.kind) {
+    if !is_of_grammar(&msg) {
         return None;
     }
     node.accept(caller, msg).ok()

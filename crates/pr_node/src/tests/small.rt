@@ -1,6 +1,6 @@
 // Small cases at B.
 
-use crate::tests::building::{A, B, body, give, imprecise, is_at, is_orderly, name, node};
+use crate::tests::building::{A, B, body, give, imprecise, is_at, is_of_grammar, name, node};
 use crate::{Answer, Node};
 use pr_inval::{Msg, NodeFault, Taken};
 use pr_stamps::MAX;
@@ -24,10 +24,7 @@ fn write_is_worn(node: &mut Node) -> bool {
 
 // Whether the message is refused, since the node's time would be worn.
 fn message_is_worn(node: &mut Node, msg: Msg) -> bool {
-    if msg.time > MAX {
-        return false;
-    }
-    if !is_orderly(&msg.kind) {
+    if !is_of_grammar(&msg) {
         return false;
     }
     is_worn(&node.accept(1, msg))

@@ -13,4 +13,4 @@ pub returns-clause-some : goal.returns-clause-some
 returns-clause-some c j tied =
     next_own c.args.id j _ _ _ _ _ _ _ (c.vector.ensures.value ∙ tied.log.vector) c.greatest.ensures.most c.greatest.ensures.held
     c.in_ok-clock.ensures.value c.in_ok-stamp.ensures.value (search rules) c.bytes.ensures.name c.stamp_of-prev.ensures.range
-    (subst (λ (x : Option Point). IsNewestKnown j c.args.name.now x) (sym c.stamp_of-prev.ensures.value) (newest_known j _ _ _ tied.marks c.newest.ensures))
+    (subst (λ (x : Option Point). IsNewestKnown j c.args.name.now x) (sym c.stamp_of-prev.ensures.value) (newest_known j _ _ _ tied.marks c.newest.ensures)) tied.spelled

@@ -1,4 +1,4 @@
-use Rattle.std.proofs.Common.{◌∙◌, sym, refl, ap, subst, List, reverse}
+use Rattle.std.proofs.Common.{◌≡◌, ◌≤◌, ◌+◌, max, ℕ, ◌∙◌, sym, refl, ap, subst, List, reverse}
 use Rattle.pr_inval.specs.declared.kind.Kind.{Kind}
 use Rattle.pr_inval.specs.declared.msg.Msg.{Msg}
 use Rattle.pr_inval.specs.Points.{to_of}
@@ -10,6 +10,8 @@ use Rattle.pr_node.specs.Calls.{is_checkpoint}
 use Rattle.pr_node.proofs.Adding.{IsReady, stands, adds}
 use Rattle.pr_node.proofs.Begun.{checkpoint_noted, checkpoint_ready, snapshot_ends}
 use Rattle.pr_node.proofs.Quiet.{quiet_tied}
+use Rattle.pr_story.specs.Lawful.{last_time}
+use Rattle.pr_node.proofs.Spelled.{message_spelled, snapshot_kind}
 use Rattle.pr_node.proofs.node.Node.checkpoint.Goals as goal
 
 pub invariant_of-self-2 : goal.invariant_of-self-2
@@ -38,3 +40,15 @@ returns-clause-ok c needs =
           (ap (λ (m : Msg). to_of m.kind) c.in_ok-sent.ensures ∙ ends.0 ∙ sym (c.vector.ensures.value ∙ tied.gaps.vector))
           (ap (λ (m : Msg). is_checkpoint m.kind) c.in_ok-sent.ensures ∙ ends.1),
     ))
+
+pub returns-clause-grammar : goal.returns-clause-grammar
+returns-clause-grammar c =
+    let n = c.self.inside.id in
+    let j : List Entry = reverse c.self.inside.diary.entries.items in
+    let a : SessionMeaning = means c.args.session.now in
+    let tied = c.self.invariant.1 c.in_ok-time.ensures.worked in
+    message_spelled c.in_ok-kind.kind c.message-msg.result a.standing.number _ a.standing.time
+    (snapshot_kind c.self.inside.stores.gaps.sets n j c.sub.result.now c.in_ok-kind.kind tied.spelled c.in_ok-kind.ensures.range (c.in_ok-kind.ensures.snapshot n j tied))
+    c.message-msg.ensures.kind c.message-msg.ensures.number (subst (λ (k : ℕ). k ≤ a.standing.time) c.number.ensures.value c.number.ensures.less)
+    (subst (λ (t : ℕ). (t ≡ max (last_time j) a.standing.time + 1) × (t ≤ 4611686018427387903)) (sym c.message-msg.ensures.time)
+    (subst (λ (k : ℕ). (c.in_ok-time.time ≡ max (last_time j) k + 1) × (c.in_ok-time.time ≤ 4611686018427387903)) c.time.ensures.value c.in_ok-time.ensures.time))

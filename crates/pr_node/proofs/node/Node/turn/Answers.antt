@@ -1,10 +1,12 @@
-use Rattle.std.proofs.Common.{◌≡◌, ◌<◌, ◌^◌, ◌∙◌, ℕ, refl, ap, subst, rules, List, reverse}
+use Rattle.std.proofs.Common.{◌≡◌, ◌<◌, ◌≤◌, ◌+◌, max, ◌^◌, ◌∙◌, ℕ, refl, ap, subst, rules, List, reverse}
 use Rattle.pr_inval.specs.Standing.{means, SessionMeaning}
 use Rattle.pr_story.specs.declared.entry.Entry.{Entry}
 use Rattle.pr_node.specs.Sending.{IsNextStep, event_of}
 use Rattle.pr_node.proofs.Adding.{stands, adds}
 use Rattle.pr_node.proofs.Quiet.{quiet_tied}
 use Rattle.pr_node.proofs.Stepping.{has_gone_on, step_at, turn_heard, turn_is, turn_quiet, turn_ready}
+use Rattle.pr_story.specs.Lawful.{last_time}
+use Rattle.pr_node.proofs.Spelled.{step_spelled}
 use Rattle.pr_node.proofs.node.Node.turn.Goals as goal
 
 pub invariant_of-self-2 : goal.invariant_of-self-2
@@ -28,3 +30,13 @@ returns-clause-ok c needs =
       has_gone_on a (means c.room.new.self) (means c.note.new.session) _ _ c.in_ok-event.event _ c.room.ensures.same c.requires
           (c.in_ok-event.ensures ∙ ap (λ (k : ℕ). event_of k c.in_ok-step.step) c.stream.ensures) (c.note.ensures c.args.caller),
     ))
+
+pub returns-clause-grammar : goal.returns-clause-grammar
+returns-clause-grammar c =
+    let j : List Entry = reverse c.self.inside.diary.entries.items in
+    let a : SessionMeaning = means c.args.session.now in
+    let tied = c.self.invariant.1 c.in_ok-time.ensures.worked in
+    step_spelled c.self.inside.id j a c.in_ok-time.time _ a.standing.time c.in_ok-step.step tied.spelled c.in_ok-step.ensures.range
+    (subst (λ (k : ℕ). k ≤ a.standing.time) c.number.ensures.value c.number.ensures.less)
+    (subst (λ (k : ℕ). (c.in_ok-time.time ≡ max (last_time j) k + 1) × (c.in_ok-time.time ≤ 4611686018427387903)) c.time.ensures.value c.in_ok-time.ensures.time)
+    (step_at c.self.inside.id j a (means c.room.new.self) c.in_ok-time.time c.in_ok-step.step c.room.ensures.same (c.in_ok-step.ensures.next c.self.inside.id j tied))
