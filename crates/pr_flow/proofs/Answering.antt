@@ -12,11 +12,12 @@ use Rattle.pr_story.specs.declared.cause.Cause.{Cause}
 use Rattle.pr_story.specs.declared.cause.Cause.TheVariants.{Gap}
 use Rattle.pr_story.specs.declared.entry.Entry.{Entry}
 use Rattle.pr_story.specs.declared.event.Event.TheVariants.{Down}
+use Rattle.pr_story.specs.Turns.{event_of}
 use Rattle.pr_wire.specs.Spelling.{spelling}
 use Rattle.pr_wire.specs.declared.format.Format.TheVariants.{Two}
 use Rattle.pr_wires.specs.Calls.{Grows}
 use Rattle.pr_flow.specs.declared.flow_end.FlowEnd.{FlowEnd}
-use Rattle.pr_flow.specs.Calls.{Call, HasEnded, HasNotTurned, HasStepped, HasTurned, IsStep, Turning, entry_of, event_of}
+use Rattle.pr_flow.specs.Calls.{Call, HasEnded, HasNotTurned, HasStepped, HasTurned, IsStep, Turning, entry_of}
 use Rattle.pr_flow.specs.Flows.{Sides, SomeFlow, TurnFlows}
 use Rattle.pr_flow.specs.Moving.{IsCut, MovesPart, WireState}
 use Rattle.pr_flow.specs.Taking.{GoesDown, IsGap, Takes}

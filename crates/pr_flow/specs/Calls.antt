@@ -12,9 +12,9 @@ use Rattle.pr_inval.specs.Standing.{HasHeard, IsSameSession, SessionMeaning}
 use Rattle.pr_story.specs.declared.cause.Cause.{Cause}
 use Rattle.pr_story.specs.declared.entry.Entry.{Entry}
 use Rattle.pr_story.specs.declared.event.Event.{Event}
-use Rattle.pr_story.specs.declared.event.Event.TheVariants.{Sent, Idle, Stale, Accepted, Gapped, Down}
+use Rattle.pr_story.specs.declared.event.Event.TheVariants.{Accepted, Gapped, Down}
 use Rattle.pr_story.specs.Commands.{IsNoCheckpoint}
-use Rattle.pr_story.specs.Turns.{count_after, position_after, sent_after}
+use Rattle.pr_story.specs.Turns.{count_after, event_of, position_after, sent_after}
 use Rattle.pr_wire.specs.Messages.{IsMessage}
 
 -- a call: a turn with the session before and after it, a message to accept, or a down with its cause and the session
@@ -63,12 +63,6 @@ pub record IsSendable (s : ℕ) (m : Msg) : Type 0 where
 abbrev pub IsStep : ℕ → Step → Type 0
 IsStep s (steps.Sent m) = IsSendable s m
 IsStep s _ = Unit {0}
-
--- the event that a step says
-abbrev pub event_of : ℕ → Step → Event
-event_of s (steps.Sent m) = Sent m
-event_of s steps.Idle = Idle s
-event_of s (steps.Stale cut) = Stale s cut
 
 -- a time of an event
 pub record IsTime (time : ℕ) : Type 0 where

@@ -10,10 +10,10 @@ use Rattle.pr_inval.specs.Standing.{SessionMeaning, Standing, IsSameSession}
 use Rattle.pr_story.specs.declared.entry.Entry.{Entry}
 use Rattle.pr_story.specs.declared.event.Event.{Event}
 use Rattle.pr_story.specs.Lawful.{heard_time}
-use Rattle.pr_story.specs.Turns.{IsTurn, SendTurn}
+use Rattle.pr_story.specs.Turns.{IsTurn, SendTurn, event_of}
 use Rattle.pr_node.specs.Calls.{HasGoneOn, IsAfter, IsStep, is_checkpoint}
 use Rattle.pr_node.specs.Quiet.{IsQuiet}
-use Rattle.pr_node.specs.Sending.{IsNextStep, IsStepInRange, IsStepOf, event_of}
+use Rattle.pr_node.specs.Sending.{IsNextStep, IsStepInRange, IsStepOf}
 use Rattle.pr_node.proofs.Adding.{IsReady}
 
 -- a session whose room alone has changed

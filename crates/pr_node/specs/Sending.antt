@@ -9,8 +9,6 @@ use Rattle.pr_inval.specs.Standing.{Standing, SessionMeaning}
 use Rattle.pr_inval.specs.Targets.{IsTargetFor}
 use Rattle.pr_vectors.specs.Vector.{IsVector}
 use Rattle.pr_story.specs.declared.entry.Entry.{Entry}
-use Rattle.pr_story.specs.declared.event.Event.{Event}
-use Rattle.pr_story.specs.declared.event.Event.TheVariants.{Sent, Idle, Stale}
 use Rattle.pr_story.specs.Ranges.{IsKind, IsMsg}
 use Rattle.pr_story.specs.Sending.{HasBody}
 use Rattle.pr_story.specs.Turns.{IsNextBody, IsTurn, StaleTurn, IdleTurn, SendTurn}
@@ -47,12 +45,6 @@ abbrev pub IsStepInRange : Step → Type 0
 IsStepInRange (step.Sent msg) = IsMsg msg
 IsStepInRange step.Idle = Unit {0}
 IsStepInRange (step.Stale cut) = IsVector cut
-
--- the event of the stream's turn
-abbrev pub event_of : ℕ → Step → Event
-event_of stream (step.Sent msg) = Sent msg
-event_of stream step.Idle = Idle stream
-event_of stream (step.Stale cut) = Stale stream cut
 
 -- the message, if one is sent, is one of the stream
 abbrev pub IsStepOf : ℕ → Step → Type 0

@@ -2,9 +2,10 @@
 ghost use Rattle.pr_inval.specs.Standing.{means};
 ghost use Rattle.pr_inval.specs.declared.kind.Kind.{Kind};
 ghost use Rattle.pr_node.specs.Calls.{HasGoneOn};
-ghost use Rattle.pr_node.specs.Sending.{IsKindOrNone, IsNextKind, IsNextStep, IsStepInRange, IsStepOf, event_of};
+ghost use Rattle.pr_node.specs.Sending.{IsKindOrNone, IsNextKind, IsNextStep, IsStepInRange, IsStepOf};
 ghost use Rattle.pr_node.specs.Ties.{IsTied};
 ghost use Rattle.pr_story.specs.Ranges.{IsKind, IsMsg};
+ghost use Rattle.pr_story.specs.Turns.{event_of};
 ghost use Rattle.pr_story.specs.declared.entry.Entry.{Entry};
 ghost use Rattle.pr_story.specs.declared.event.Event.TheVariants.{Sent};
 ghost use Rattle.pr_vectors.specs.Vector.{Le};

@@ -10,6 +10,8 @@ use Rattle.pr_names.specs.Span.{Span}
 use Rattle.pr_inval.specs.declared.kind.Kind.{Kind}
 use Rattle.pr_inval.specs.declared.kind.Kind.TheVariants.{Precise, Imprecise, Checkpoint, Body}
 use Rattle.pr_inval.specs.declared.row.Row.{Row}
+use Rattle.pr_inval.specs.declared.step.Step.{Step}
+use Rattle.pr_inval.specs.declared.step.Step.TheVariants as steps
 use Rattle.pr_inval.specs.declared.write_rec.WriteRec.{WriteRec}
 use Rattle.pr_story.specs.declared.event.Event.{Event}
 use Rattle.pr_story.specs.declared.event.Event.TheVariants.{Attached, Sent, Idle, Stale, Accepted, Gapped, Missing, Down}
@@ -22,6 +24,12 @@ use Rattle.pr_story.specs.Told.{set_of, IsPrecise, IsDarkBetween}
 use Rattle.pr_story.specs.Knowledge.{Knows, WasNamed, IsNewestKnown, KnowsGone, held_body, cuts_of, floor_of, IsMark}
 
 -- ---- where a stream stands
+
+-- the event of a stream's turn
+abbrev pub event_of : ℕ → Step → Event
+event_of stream (steps.Sent msg) = Sent msg
+event_of stream steps.Idle = Idle stream
+event_of stream (steps.Stale cut) = Stale stream cut
 
 -- whether the event is one of the stream's
 abbrev pub is_of_stream : Event → ℕ → Bool

@@ -1,7 +1,8 @@
 use Rattle.std.proofs.Common.{◌≡◌, ◌<◌, ◌≤◌, ◌+◌, max, ◌^◌, ◌∙◌, ℕ, refl, ap, subst, rules, List, reverse}
 use Rattle.pr_inval.specs.Standing.{means, SessionMeaning}
 use Rattle.pr_story.specs.declared.entry.Entry.{Entry}
-use Rattle.pr_node.specs.Sending.{IsNextStep, event_of}
+use Rattle.pr_story.specs.Turns.{event_of}
+use Rattle.pr_node.specs.Sending.{IsNextStep}
 use Rattle.pr_node.proofs.Adding.{stands, adds}
 use Rattle.pr_node.proofs.Quiet.{quiet_tied}
 use Rattle.pr_node.proofs.Stepping.{has_gone_on, step_at, turn_heard, turn_is, turn_quiet, turn_ready}
