@@ -1,6 +1,7 @@
 -- All stores stay tied over an accepted checkpoint.
 use Rattle.std.proofs.Common.{◌≡◌, ℕ, ◌<◌, ◌≤◌, inl, inr, List, [], ◌∷◌, ◌++◌, ◌+◌, refl, sym, ◌∙◌, subst, length, take, get_or}
 use Rattle.pr_names.specs.Span.{Span}
+use Rattle.pr_sets.specs.Spans.{has}
 use Rattle.pr_inval.specs.declared.kind.Kind.{Kind}
 use Rattle.pr_inval.specs.declared.kind.Kind.TheVariants.{Checkpoint}
 use Rattle.pr_inval.specs.declared.msg.Msg.{Msg}
@@ -11,19 +12,19 @@ use Rattle.pr_snap.specs.Apply.{IsApplied}
 use Rattle.pr_story.specs.declared.entry.Entry.{Entry}
 use Rattle.pr_story.specs.declared.event.Event.TheVariants.{Accepted}
 use Rattle.pr_story.specs.Knowledge.{HasRow}
-use Rattle.pr_story.specs.Ranges.{IsKind}
 use Rattle.pr_node.specs.declared.stores.Stores.{Stores}
-use Rattle.pr_node.specs.Taking.{AreSettled, IsOrderly}
+use Rattle.pr_node.specs.Taking.{AreSettled}
 use Rattle.pr_node.specs.Ties.{IsTied}
 use Rattle.std.proofs.lemmas.List.Elements.{Contains-append_left, Contains-append_right}
 use Rattle.pr_story.proofs.NewestFirst.{with_next, with_whole}
 use Rattle.pr_story.proofs.Sorted.{is_first}
-use Rattle.pr_wire.specs.Messages.{IsKind as IsKindOfGrammar}
+use Rattle.pr_wire.specs.Messages.{IsKind}
 use Rattle.pr_node.proofs.Logs.{dark_log}
 use Rattle.pr_node.proofs.Points.{covered_gaps}
 use Rattle.pr_node.proofs.Held.{body_step, settled_or}
 use Rattle.pr_node.proofs.Refining.{same_body}
 use Rattle.pr_node.proofs.Checkpoints.{applied_marks}
+use Rattle.pr_node.proofs.Spelled.{rows_orderly, rows_range}
 
 settled_with : (a b c : Held) (rows : List Row) (row : Row) → AreSettled a b rows → IsSettled b c row.name row.newest → AreSettled a c (rows ++ row ∷ [])
 settled_with a b c rows row old settled o t = elim (settled_or b c row.name o row.newest t settled) [
@@ -43,10 +44,10 @@ pub settled_all : (a b : Held) (rows : List Row) (i : ℕ) → length rows ≤ i
 settled_all a b rows i le old = with_whole (λ (rs : List Row). AreSettled a b rs) rows i le old
 
 pub checkpoint_tied : (n : ℕ) (j : List Entry) (a b : Stores) (time caller : ℕ) (msg : Msg) (at to : List ℕ) (target : List Span) (floor : List ℕ) (rows : List Row)
-    → msg.kind ≡ Checkpoint to target floor rows → IsKindOfGrammar (Checkpoint to target floor rows) → IsKind (Checkpoint to target floor rows) → IsOrderly (Checkpoint to target floor rows) → IsTied n j a
+    → msg.kind ≡ Checkpoint to target floor rows → IsKind (Checkpoint to target floor rows) → IsTied n j a
     → IsDarkened a.log b.log to → IsApplied a.gaps b.gaps a.marks b.marks to target floor rows → AreSettled a.bodies b.bodies rows
     → IsTied n (record { time = time; caller = caller; event = Accepted msg at } ∷ j) b
-checkpoint_tied n j a b time caller msg at to target floor rows is grammar range orderly f dark applied settled =
+checkpoint_tied n j a b time caller msg at to target floor rows is grammar f dark applied settled =
     let k : Kind = Checkpoint to target floor rows in
     let e : Entry = record { time = time; caller = caller; event = Accepted msg at } in
     record {
@@ -56,6 +57,6 @@ checkpoint_tied n j a b time caller msg at to target floor rows is grammar range
         | inl same ↦ same
         | inr r ↦ absurd (latest r.0.newest (inl (inr (r.0, subst (λ (q : Kind). HasRow q r.0) (sym is) r.1, r.2, refl))) r.3)
       ] ∙ sym (same_body msg at k o t (held a.bodies o t) (held a.bodies o t) is refl)) f.bodies;
-      marks = applied_marks j a.marks b.marks time caller msg at to target floor rows is range.2 range.3 orderly f.marks applied.floor applied.newest applied.marks;
-      spelled = (subst (λ (q : Kind). IsKindOfGrammar q) (sym is) grammar, f.spelled);
+      marks = applied_marks j a.marks b.marks time caller msg at to target floor rows is grammar.1.floor_is (rows_range to (has target) floor rows grammar.1) (rows_orderly to (has target) floor rows grammar.1) f.marks applied.floor applied.newest applied.marks;
+      spelled = (subst (λ (q : Kind). IsKind q) (sym is) grammar, f.spelled);
     }

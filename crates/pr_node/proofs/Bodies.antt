@@ -20,7 +20,7 @@ use Rattle.pr_story.proofs.Known.{Decides-is_this, same_point}
 use Rattle.pr_node.specs.declared.stores.Stores.{Stores}
 use Rattle.pr_node.specs.Taking.{IsBodyTaken, IsLate}
 use Rattle.pr_node.specs.Ties.{IsTied, IsLogOf, IsGapsOf, IsMarksOf, named}
-use Rattle.pr_wire.specs.Messages.{IsKind as IsKindOfGrammar}
+use Rattle.pr_wire.specs.Messages.{IsKind}
 use Rattle.pr_node.proofs.Logs.{same_log}
 use Rattle.pr_node.proofs.Points.{same_gaps}
 use Rattle.pr_node.proofs.Held.{body_step}
@@ -49,7 +49,7 @@ late_named j name stamp None n late = absurd late
 late_named j name stamp (Some newest) n late = (newest.stamp, n.0.0, late)
 
 pub body_tied : (n : ℕ) (j : List Entry) (a b : Stores) (time caller : ℕ) (msg : Msg) (at name : List ℕ) (stamp : Point) (bytes : List ℕ)
-    → msg.kind ≡ Body name stamp bytes → IsKindOfGrammar (Body name stamp bytes) → IsTied n j a → IsBodyTaken a.bodies b.bodies a.marks name stamp bytes → b.log ≡ a.log → b.gaps ≡ a.gaps → b.marks ≡ a.marks
+    → msg.kind ≡ Body name stamp bytes → IsKind (Body name stamp bytes) → IsTied n j a → IsBodyTaken a.bodies b.bodies a.marks name stamp bytes → b.log ≡ a.log → b.gaps ≡ a.gaps → b.marks ≡ a.marks
     → IsTied n (record { time = time; caller = caller; event = Accepted msg at } ∷ j) b
 body_tied n j a b time caller msg at name stamp bytes is grammar f taken same_l same_g same_m =
     let k : Kind = Body name stamp bytes in
@@ -73,7 +73,7 @@ body_tied n j a b time caller msg at name stamp bytes is grammar f taken same_l 
       marks = subst (λ m. IsMarksOf (e ∷ j) m) (sym same_m) (same_marks e j a.marks f.marks (ap floor_in is)
           (λ o. no_newest msg at k o is (λ x q. absurd q) (λ row q. absurd q))
           (λ o s. same_mark msg at k o s None is refl));
-      spelled = (subst (λ (q : Kind). IsKindOfGrammar q) (sym is) grammar, f.spelled);
+      spelled = (subst (λ (q : Kind). IsKind q) (sym is) grammar, f.spelled);
     }
   where
     no_point : (p : Point) → CoversPoint (Body name stamp bytes) p → ⊥

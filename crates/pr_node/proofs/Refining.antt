@@ -20,12 +20,13 @@ use Rattle.pr_story.specs.Knowledge.{IsOf, HasRow, body_in, floor_in, mark_in, m
 use Rattle.pr_story.specs.Search.{IsNewestIn}
 use Rattle.pr_story.proofs.NewestNow.{accepted_newest}
 use Rattle.pr_node.specs.declared.stores.Stores.{Stores}
-use Rattle.pr_node.specs.Ties.{IsTied, IsMarksOf, IsMarkInRange}
-use Rattle.pr_wire.specs.Messages.{IsKind as IsKindOfGrammar}
+use Rattle.pr_node.specs.Ties.{IsTied, IsMarksOf}
+use Rattle.pr_wire.specs.Messages.{IsKind}
 use Rattle.pr_node.proofs.Logs.{refined_log, some_same}
 use Rattle.pr_node.proofs.Points.{covered_gaps}
 use Rattle.pr_node.proofs.Held.{body_step, settled_by}
 use Rattle.pr_node.proofs.Tables.{write_marked, same_marks}
+use Rattle.pr_node.proofs.Spelled.{prev_range}
 
 -- ---- what a kind says, of a message that is of it
 
@@ -44,11 +45,11 @@ no_newest msg at k o is of rows = λ s t. elim t [
 
 -- ---- invalidations
 
-pub precise_tied : (n : ℕ) (j : List Entry) (a b : Stores) (time caller : ℕ) (msg : Msg) (at from to : List ℕ) (none : List Span) (write : WriteRec)
-    → none ≡ [] → msg.kind ≡ Precise from to write → IsKindOfGrammar (Precise from to write) → IsMarkInRange (mark_of write) → IsTied n j a
-    → IsRefined a.log b.log from to none (Some write) → IsCovered a.gaps b.gaps from to none → IsSettled a.bodies b.bodies write.name write.stamp → IsMarked a.marks b.marks write.name (mark_of write) write.gone
+pub precise_tied : (n : ℕ) (j : List Entry) (a b : Stores) (time caller : ℕ) (msg : Msg) (at from to : List ℕ) (none : List Span) (mark : Mark) (write : WriteRec)
+    → none ≡ [] → mark ≡ mark_of write → msg.kind ≡ Precise from to write → IsKind (Precise from to write) → IsTied n j a
+    → IsRefined a.log b.log from to none (Some write) → IsCovered a.gaps b.gaps from to none → IsSettled a.bodies b.bodies write.name write.stamp → IsMarked a.marks b.marks write.name mark write.gone
     → IsTied n (record { time = time; caller = caller; event = Accepted msg at } ∷ j) b
-precise_tied n j a b time caller msg at from to none write empty is grammar range f refined covered settled marked =
+precise_tied n j a b time caller msg at from to none mark write empty is_mark is grammar f refined covered settled marked =
     let k : Kind = Precise from to write in
     let e : Entry = record { time = time; caller = caller; event = Accepted msg at } in
     record {
@@ -57,15 +58,15 @@ precise_tied n j a b time caller msg at from to none write empty is grammar rang
       bodies = body_step e j a.bodies b.bodies (λ o t latest.
           settled o t ∙ settled_by write.name o write.stamp t (λ same before. latest write.stamp (inl (inl (write, subst (λ (q : Kind). IsOf q write) (sym is) refl, same, refl))) before)
           ∙ sym (same_body msg at k o t (held a.bodies o t) (held a.bodies o t) is refl)) f.bodies;
-      marks = write_marked e j a.marks b.marks write f.marks marked range
+      marks = write_marked e j a.marks b.marks write f.marks (subst (λ (m : Mark). IsMarked a.marks b.marks write.name m write.gone) is_mark marked) (grammar.3.stamp, prev_range write.prev write.stamp grammar.3.prev)
           (λ o r only. accepted_newest msg at from to write o r is only)
           (λ o s. same_mark msg at k o s (cond (is_this write.name write.stamp o s) (Some (mark_of write)) None) is refl)
           (ap floor_in is);
-      spelled = (subst (λ (q : Kind). IsKindOfGrammar q) (sym is) grammar, f.spelled);
+      spelled = (subst (λ (q : Kind). IsKind q) (sym is) grammar, f.spelled);
     }
 
 pub imprecise_tied : (n : ℕ) (j : List Entry) (a b : Stores) (time caller : ℕ) (msg : Msg) (at from to : List ℕ) (target : List Span)
-    → msg.kind ≡ Imprecise from to target → IsKindOfGrammar (Imprecise from to target) → IsTied n j a
+    → msg.kind ≡ Imprecise from to target → IsKind (Imprecise from to target) → IsTied n j a
     → IsRefined a.log b.log from to target None → IsCovered a.gaps b.gaps from to target → b.bodies ≡ a.bodies → b.marks ≡ a.marks
     → IsTied n (record { time = time; caller = caller; event = Accepted msg at } ∷ j) b
 imprecise_tied n j a b time caller msg at from to target is grammar f refined covered bodies marks =
@@ -78,5 +79,5 @@ imprecise_tied n j a b time caller msg at from to target is grammar f refined co
       marks = subst (λ (m : Table). IsMarksOf (e ∷ j) m) (sym marks) (same_marks e j a.marks f.marks (ap floor_in is)
           (λ o. no_newest msg at k o is (λ x q. absurd q) (λ row q. absurd q))
           (λ o s. same_mark msg at k o s None is refl));
-      spelled = (subst (λ (q : Kind). IsKindOfGrammar q) (sym is) grammar, f.spelled);
+      spelled = (subst (λ (q : Kind). IsKind q) (sym is) grammar, f.spelled);
     }

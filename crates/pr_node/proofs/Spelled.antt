@@ -1,6 +1,6 @@
 -- What a node sends is in the grammar, where what it was told is.
 use Rattle.std.proofs.Common.{◌≡◌, ℕ, ◌<◌, ◌≤◌, ◌+◌, ◌⊎◌, inl, inr, List, [], ◌∷◌, suc, max, min, cond, nat_eq, refl, sym, ◌∙◌, ap, subst, arith, length, get_or}
-use Rattle.std.specs.Prelude.{Option, AllPairs, Contains}
+use Rattle.std.specs.Prelude.{Bool, Option, None, Some, All, AllPairs, Contains}
 use Rattle.std.specs.List.{AllByRecursion}
 use Rattle.std.proofs.lemmas.Bool.Decides.{nat_tests}
 use Rattle.std.proofs.lemmas.List.Elements.{All-contains, All-from_recursion}
@@ -25,14 +25,14 @@ use Rattle.pr_story.specs.declared.event.Event.{Event}
 use Rattle.pr_story.specs.declared.event.Event.TheVariants.{Wrote, Accepted, Cut}
 use Rattle.pr_story.specs.History.{Accepts, HasAccepted, Writes, SomeEvent, clock_brought, current_clock, current_vector}
 use Rattle.pr_story.specs.Knowledge.{IsOf, HasRow, TellsOf, WasTold, NamesStamp, WasNamed, IsMark, floor_in, floor_after, floor_of}
-use Rattle.pr_story.specs.Ranges.{IsKind as IsKindInRange, IsRow as IsRowInRange}
+use Rattle.pr_story.specs.Ranges.{IsKind as IsKindInRange, IsRow as IsRowInRange, IsStampOrNone}
 use Rattle.pr_story.specs.Turns.{IsTurn, SendTurn, IsSnapshot, IsSnapshotRow}
 use Rattle.pr_story.proofs.Basics.{clock_zero}
 use Rattle.pr_story.proofs.Known.{known_told, held_how}
 use Rattle.pr_story.proofs.Naming.{TellsMark, WasToldMark, known_mark_told}
-use Rattle.pr_wire.specs.Messages.{IsPrev, IsMark as IsMarkOfRow, IsRow, IsKind, IsEarlierMark, IsEarlierRow, Rises, IsMessage}
+use Rattle.pr_wire.specs.Messages.{IsPrev, IsMark as IsMarkOfRow, IsRow, IsCheckpoint, IsKind, IsEarlierMark, IsEarlierRow, Rises, IsMessage}
 use Rattle.pr_node.specs.Grammar.{IsSpelled, IsSpelledEvent, IsStepSpelled}
-use Rattle.pr_node.specs.Taking.{IsOrderly}
+use Rattle.pr_node.specs.Ties.{IsMarkInRange}
 use Rattle.pr_node.proofs.Clocks.{vector_grows}
 
 -- ---- rows of a checkpoint
@@ -43,13 +43,30 @@ row_of to target floor rows row k c = All-contains (λ r. IsRow floor to (has ta
 mark_of_row : (to : List ℕ) (target : List Span) (floor : List ℕ) (row : Row) (m : Mark) → IsRow floor to (has target) row → Contains row.marks m → IsMarkOfRow floor to row.newest m
 mark_of_row to target floor row m r c = All-contains (λ x. IsMarkOfRow floor to row.newest x) row.marks m (All-from_recursion (λ x. IsMarkOfRow floor to row.newest x) row.marks r.each) c
 
--- a message of the grammar is orderly
-pub orderly : (k : Kind) → IsKind k → IsOrderly k
-orderly (Precise from to write) k = k.2
-orderly (Imprecise from to target) k = k.2
-orderly (Body name stamp bytes) k = tt
-orderly (Checkpoint to target floor rows) k = λ i d lt i2 d2 lt2.
-    (All-from_recursion (λ x. IsMarkOfRow floor to (get_or rows i d).newest x) (get_or rows i d).marks (All-from_recursion (λ r. IsRow floor to (has target) r) rows k.1.each i d lt).each i2 d2 lt2).known
+-- ---- what the grammar says of ranges and of order
+
+pub prev_range : (prev : Option Point) (stamp : Point) → IsPrev prev stamp → IsStampOrNone prev
+prev_range None stamp before = tt
+prev_range (Some p) stamp before = before.0
+
+mark_range : (floor to : List ℕ) (newest : Point) (m : Mark) → IsMarkOfRow floor to newest m → IsMarkInRange m
+mark_range floor to newest m mark = (mark.stamp, prev_range m.prev m.stamp mark.prev)
+
+row_range : (floor to : List ℕ) (target : List ℕ → Bool) (row : Row) → IsRow floor to target row → IsRowInRange row
+row_range floor to target row r = (
+  r.name,
+  r.newest,
+  λ i d lt. mark_range floor to row.newest (get_or row.marks i d) (All-from_recursion (λ m. IsMarkOfRow floor to row.newest m) row.marks r.each i d lt),
+)
+
+pub rows_range : (to : List ℕ) (target : List ℕ → Bool) (floor : List ℕ) (rows : List Row) → IsCheckpoint to target floor rows → All IsRowInRange rows
+rows_range to target floor rows k = λ i d lt. row_range floor to target (get_or rows i d) (All-from_recursion (λ r. IsRow floor to target r) rows k.each i d lt)
+
+-- no mark of a row is after the row's newest stamp
+pub rows_orderly : (to : List ℕ) (target : List ℕ → Bool) (floor : List ℕ) (rows : List Row) → IsCheckpoint to target floor rows
+    → All (λ (row : Row). All (λ (m : Mark). ¬ Before row.newest m.stamp) row.marks) rows
+rows_orderly to target floor rows k = λ i d lt i2 d2 lt2.
+    (All-from_recursion (λ m. IsMarkOfRow floor to (get_or rows i d).newest m) (get_or rows i d).marks (All-from_recursion (λ r. IsRow floor to target r) rows k.each i d lt).each i2 d2 lt2).known
 
 -- ---- stamps that were named
 

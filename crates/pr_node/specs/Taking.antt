@@ -1,10 +1,8 @@
 -- What a message changes of the stores.
-use Rattle.std.specs.Prelude.{ℕ, List, ◌∷◌, ◌≡◌, ◌⊎◌, IsTrue, All, Contains, Option, None, Some}
+use Rattle.std.specs.Prelude.{ℕ, List, ◌∷◌, ◌≡◌, ◌⊎◌, IsTrue, Contains, Option, None, Some}
 use Rattle.pr_stamps.specs.Point.{Point, Before}
-use Rattle.pr_stamps.specs.declared.mark.Mark.{Mark}
 use Rattle.pr_vectors.specs.Vector.{Le}
 use Rattle.pr_inval.specs.declared.kind.Kind.{Kind}
-use Rattle.pr_inval.specs.declared.kind.Kind.TheVariants.{Precise, Imprecise, Checkpoint, Body}
 use Rattle.pr_inval.specs.declared.msg.Msg.{Msg}
 use Rattle.pr_inval.specs.declared.row.Row.{Row}
 use Rattle.pr_inval.specs.Points.{from_of}
@@ -16,14 +14,6 @@ use Rattle.pr_story.specs.declared.event.Event.TheVariants.{Accepted}
 use Rattle.pr_story.specs.Lawful.{has_from}
 use Rattle.pr_node.specs.declared.stores.Stores.{Stores}
 use Rattle.pr_node.specs.Ties.{IsTied}
-
--- what a node asks of a message beside the ranges of its numbers: an invalidation's start is at most its end, and no mark
--- of a row is after the row's newest stamp
-abbrev pub IsOrderly : Kind → Type 0
-IsOrderly (Precise from to write) = Le from to
-IsOrderly (Imprecise from to target) = Le from to
-IsOrderly (Checkpoint to target floor rows) = All (λ (row : Row). All (λ (mark : Mark). ¬ Before row.newest mark.stamp) row.marks) rows
-IsOrderly (Body name stamp bytes) = Unit {0}
 
 -- from a to b the stores have taken a message of this kind
 abbrev pub HasTaken : Stores → Stores → Kind → Type 0

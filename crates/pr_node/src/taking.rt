@@ -1,19 +1,19 @@
 // What a message changes of the stores.
 ghost use Rattle.pr_inval.specs.Points.{from_of};
 ghost use Rattle.pr_inval.specs.declared.kind.Kind.TheVariants.{Body, Checkpoint, Imprecise, Precise};
-ghost use Rattle.pr_node.specs.Taking.{AreSettled, HasTaken, IsBodyTaken, IsGap, IsLate, IsOrderly};
-ghost use Rattle.pr_story.specs.Ranges.{IsKind};
+ghost use Rattle.pr_node.specs.Taking.{AreSettled, HasTaken, IsBodyTaken, IsGap, IsLate};
 ghost use Rattle.pr_vectors.specs.Vector.{Le};
-ghost use Rattle.pr_wire.specs.Messages.{IsKind as IsKindOfGrammar};
+ghost use Rattle.pr_wire.specs.Messages.{IsKind};
 ghost use Rattle.std.specs.Prelude.{◌≡◌, ◌↔◌, IsTrue, OnOk};
 
 use crate::Stores;
+use crate::writing::mark_of;
 use pr_bodies::Bodies;
 use pr_inval::{Kind, Row, WriteRec};
 use pr_marks::{Marks, Newest};
 use pr_names::Name;
 use pr_sets::NameSet;
-use pr_stamps::{Mark, NoMemory, Stamp};
+use pr_stamps::{NoMemory, Stamp};
 use pr_vectors::Vector;
 use std::alloc::Global;
 
@@ -31,9 +31,7 @@ pub fn gap(kind: &Kind, has: &Vector) -> Option<Vector>
 
 // The stores take a message that has no gap.
 pub fn take(alloc: Global, stores: &mut Stores, kind: &Kind) -> Result<(), NoMemory>
-    requires range { IsKind kind.now }
-    requires orderly { IsOrderly kind.now }
-    requires grammar { IsKindOfGrammar kind.now }
+    requires grammar { IsKind kind.now }
     requires log { Le (from_of kind.now) stores.old.log.vector }
     requires gaps { stores.old.gaps.vector ≡ stores.old.log.vector }
     ensures taken { OnOk result (HasTaken stores.old stores.new kind.now) }
@@ -60,19 +58,14 @@ fn take_precise(
     to: &Vector,
     write: &WriteRec,
 ) -> Result<(), NoMemory>
-    requires range { IsKind (Precise from.now to.now write.now) }
-    requires grammar { IsKindOfGrammar (Precise from.now to.now write.now) }
-    requires span { Le from.now to.now }
+    requires grammar { IsKind (Precise from.now to.now write.now) }
     requires log { Le from.now stores.old.log.vector }
     requires gaps { stores.old.gaps.vector ≡ stores.old.log.vector }
     ensures taken { OnOk result (HasTaken stores.old stores.new (Precise from.now to.now write.now)) }
     ensures sets { OnOk result (stores.new.gaps.sets ≡ stores.old.gaps.sets) }
 {
     let none = NameSet::empty(alloc);
-    let mark = Mark {
-        stamp: write.stamp,
-        prev: write.prev,
-    };
+    let mark = mark_of(write);
     stores.log.refine(from, to, &none, Some(write))?;
     stores.gaps.cover(from, to, &none)?;
     stores.bodies.settle(&write.name, &write.stamp);
@@ -86,8 +79,7 @@ fn take_imprecise(
     to: &Vector,
     target: &NameSet,
 ) -> Result<(), NoMemory>
-    requires grammar { IsKindOfGrammar (Imprecise from.now to.now target.now) }
-    requires span { Le from.now to.now }
+    requires grammar { IsKind (Imprecise from.now to.now target.now) }
     requires log { Le from.now stores.old.log.vector }
     requires gaps { stores.old.gaps.vector ≡ stores.old.log.vector }
     ensures taken { OnOk result (HasTaken stores.old stores.new (Imprecise from.now to.now target.now)) }
@@ -105,9 +97,7 @@ fn take_checkpoint(
     floor: &Vector,
     rows: &[Row],
 ) -> Result<(), NoMemory>
-    requires range { IsKind (Checkpoint to.now target.now floor.now rows.now) }
-    requires orderly { IsOrderly (Checkpoint to.now target.now floor.now rows.now) }
-    requires grammar { IsKindOfGrammar (Checkpoint to.now target.now floor.now rows.now) }
+    requires grammar { IsKind (Checkpoint to.now target.now floor.now rows.now) }
     ensures taken { OnOk result (HasTaken stores.old stores.new (Checkpoint to.now target.now floor.now rows.now)) }
     ensures sets { OnOk result (stores.new.gaps.sets ≡ stores.old.gaps.sets) }
 {
@@ -126,7 +116,7 @@ fn settle_rows(bodies: &mut Bodies, rows: &[Row])
 }
 
 fn take_body(stores: &mut Stores, name: &Name, stamp: &Stamp, bytes: &[u8]) -> Result<(), NoMemory>
-    requires grammar { IsKindOfGrammar (Body name.now stamp.now bytes.now) }
+    requires grammar { IsKind (Body name.now stamp.now bytes.now) }
     ensures taken { OnOk result (HasTaken stores.old stores.new (Body name.now stamp.now bytes.now)) }
     ensures sets { OnOk result (stores.new.gaps.sets ≡ stores.old.gaps.sets) }
 {

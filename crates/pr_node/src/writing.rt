@@ -2,6 +2,7 @@
 ghost use Rattle.pr_node.specs.Writes.{IsBodyKept, IsClockWornIn, IsNextOwn};
 ghost use Rattle.pr_marks.specs.declared.newest.Newest.{Newest};
 ghost use Rattle.pr_node.specs.Ties.{IsTied};
+ghost use Rattle.pr_story.specs.Knowledge.{mark_of};
 ghost use Rattle.pr_story.specs.Ranges.{IsStampOrNone};
 ghost use Rattle.pr_story.specs.declared.entry.Entry.{Entry};
 ghost use Rattle.pr_story.specs.declared.event.Event.TheVariants.{Wrote};
@@ -50,7 +51,6 @@ fn stamp_of(newest: &Option<Newest>) -> Option<Stamp>
 
 // The stores take a write of their own node. The body of a delete is not held.
 pub fn keep_write(stores: &mut Stores, write: &WriteRec, body: &[u8]) -> Result<(), NoMemory>
-    requires range { IsStampOrNone write.now.prev }
     requires before { IsPrev write.now.prev write.now.stamp }
     requires short { length body.now ≤ 65536 }
     requires own { write.now.stamp.node ≡ stores.old.log.node }
@@ -61,12 +61,19 @@ pub fn keep_write(stores: &mut Stores, write: &WriteRec, body: &[u8]) -> Result<
     stores.log.add_own(write)?;
     stores.gaps.own(write.stamp.clock());
     keep_body(&mut stores.bodies, write, body)?;
-    let mark = Mark {
-        stamp: write.stamp,
-        prev: write.prev,
-    };
+    let mark = mark_of(write);
     stores.marks.add(&write.name, &mark, write.gone)?;
     Ok(())
+}
+
+// The mark of a write.
+pub fn mark_of(write: &WriteRec) -> Mark
+    ensures { result ≡ mark_of write.now }
+{
+    Mark {
+        stamp: write.stamp,
+        prev: write.prev,
+    }
 }
 
 fn keep_body(bodies: &mut Bodies, write: &WriteRec, body: &[u8]) -> Result<(), NoMemory>

@@ -3,4 +3,4 @@ use Rattle.pr_node.proofs.taking.take_checkpoint.Goals as goal
 
 pub returns-clause-taken : goal.returns-clause-taken
 returns-clause-taken c n j time caller msg at is tied =
-    checkpoint_tied n j _ _ time caller msg at _ _ _ _ is c.requires.grammar c.requires.range c.requires.orderly tied c.in_ok-darken.ensures.ok c.in_ok-apply.ensures.ok c.settle_rows.ensures
+    checkpoint_tied n j _ _ time caller msg at _ _ _ _ is c.requires.grammar tied c.in_ok-darken.ensures.ok c.in_ok-apply.ensures.ok c.settle_rows.ensures

@@ -3,7 +3,6 @@ use Rattle.pr_story.specs.declared.entry.Entry.{Entry}
 use Rattle.pr_node.proofs.Adding.{stands, still_stands, adds}
 use Rattle.pr_node.proofs.Quiet.{quiet_tied}
 use Rattle.pr_node.proofs.Receiving.{gapped_ready, accepted_ready}
-use Rattle.pr_node.proofs.Spelled.{orderly}
 use Rattle.pr_node.proofs.node.Node.accept.Goals as goal
 
 pub invariant_of-self : goal.invariant_of-self
@@ -36,6 +35,3 @@ returns-clause-ok c sessions needs =
     rw (← c.self.view_is) (adds _ _ _ _ _ _ _ _ _ sessions needs _ _ _ c.in_ok-time.ensures.items c.finish-2.ensures.items c.in_ok-take.ensures.sets c.finish-2.ensures.spent
     (accepted_ready sessions needs _ _ _ _ _ _ c.vector-has.result _ c.msg_in_range.ensures c.vector-at.ensures.range (c.vector-has.ensures.value ∙ tied.log.vector) (search rules) (c.vector-at.ensures.value ∙ now.log.vector))
     c.ranges.caller.fits refl refl c.in_ok-time.ensures.time ((c.vector-at.result, refl), refl))
-
-pub take-requires-clause-orderly : goal.take-requires-clause-orderly
-take-requires-clause-orderly c = orderly c.args.msg.kind c.requires.kind
