@@ -26,15 +26,12 @@ use Rattle.pr_story.specs.declared.plain.named.Named.{Named}
 use Rattle.pr_story.specs.Knowledge.{first_of, floor_in, floor_of, known_mark, mark_at, mark_in_rows, mark_in}
 use Rattle.pr_story.specs.Ranges.{IsRow}
 use Rattle.pr_story.specs.Search.{later_of, IsNewestRow, IsNewestOf}
-use Rattle.pr_story.proofs.NewestNow.{newest_more, rows_newest, other_row, this_row_of}
+use Rattle.pr_story.proofs.NewestNow.{first_none, first_twice, newest_more, rows_newest, other_row, this_row_of}
 use Rattle.pr_node.specs.Ties.{IsMarksOf, IsMarkInRange, named}
+use Rattle.pr_node.proofs.Choice.{by_test}
 use Rattle.pr_node.proofs.Clocks.{clock_out, floor_out, below_or_not}
 use Rattle.pr_node.proofs.Marked.{IsKept, here, is_at, kept_more, covered_alike, all_with, all_above}
 use Rattle.pr_node.proofs.Tables.{named_raised}
-
-by_test : {A : Type 0} (b : Bool) → (b ≡ true → A) → (b ≡ false → A) → A
-by_test true then otherwise = then refl
-by_test false then otherwise = otherwise refl
 
 -- ---- newest stamps
 
@@ -122,14 +119,6 @@ newest_applied j m q time caller msg at to target floor rows o is orderly old ap
 
 -- ---- marks
 
-first_twice : {X : Type 0} (a b c : Option X) → first_of (first_of a b) c ≡ first_of a (first_of b c)
-first_twice (Some x) b c = refl
-first_twice None b c = refl
-
-first_none : {X : Type 0} (a : Option X) → first_of a None ≡ a
-first_none (Some x) = refl
-first_none None = refl
-
 kept_as : (floor : List ℕ) (marks : List Mark) (s : Point) (x y : Option Mark) → x ≡ y → IsKept floor marks s x → IsKept floor marks s y
 kept_as floor marks s x y e k = subst (λ (z : Option Mark). IsKept floor marks s z) e k
 
@@ -142,7 +131,7 @@ kept_by : (floor : List ℕ) (xs marks : List Mark) (s : Point) (known : Option 
     → IsKept floor (marks_by floor xs marks) s (first_of known (mark_at xs s))
 kept_by floor [] marks s known rise old = kept_as floor marks s known (first_of known None) (sym (first_none known)) old
 kept_by floor (x ∷ xs) marks s known rise old =
-    kept_as floor (marks_by floor (x ∷ xs) marks) s (first_of (first_of known (here x s)) (mark_at xs s)) (first_of known (mark_at (x ∷ xs) s)) (first_twice known (here x s) (mark_at xs s))
+    kept_as floor (marks_by floor (x ∷ xs) marks) s (first_of (first_of known (here x s)) (mark_at xs s)) (first_of known (mark_at (x ∷ xs) s)) (sym (first_twice known (here x s) (mark_at xs s)))
     (kept_by floor xs (cond (is_covered floor x.stamp) marks (with_mark marks x)) s (first_of known (here x s))
     (rises_by floor (x ∷ []) marks rise)
     (kept_more floor marks x s known rise old))
@@ -166,7 +155,7 @@ kept_among : (floor : List ℕ) (rows : List Row) (o : List ℕ) (marks : List M
 kept_among floor [] o marks s known rise old = kept_as floor marks s known (first_of known None) (sym (first_none known)) old
 kept_among floor (row ∷ rows) o marks s known rise old =
     let this : Option Mark = cond (bytes_eq row.name o) (mark_at row.marks s) None in
-    kept_as floor (marks_among floor (row ∷ rows) o marks) s (first_of (first_of known this) (mark_in_rows rows o s)) (first_of known (mark_in_rows (row ∷ rows) o s)) (first_twice known this (mark_in_rows rows o s))
+    kept_as floor (marks_among floor (row ∷ rows) o marks) s (first_of (first_of known this) (mark_in_rows rows o s)) (first_of known (mark_in_rows (row ∷ rows) o s)) (sym (first_twice known this (mark_in_rows rows o s)))
     (kept_among floor rows o (cond (bytes_eq row.name o) (marks_by floor row.marks marks) marks) s (first_of known this) (rises_row floor row o marks rise) (kept_row floor row o marks s known rise old))
 
 range_by : (floor : List ℕ) (xs marks : List Mark) → All IsMarkInRange xs → All IsMarkInRange marks → All IsMarkInRange (marks_by floor xs marks)

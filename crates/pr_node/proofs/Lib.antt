@@ -1,3 +1,4 @@
+pub mod Choice
 pub mod Clocks
 pub mod Logs
 pub mod Points

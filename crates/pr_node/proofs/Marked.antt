@@ -6,6 +6,8 @@ use Rattle.pr_stamps.specs.Point.{Point}
 use Rattle.pr_stamps.specs.declared.mark.Mark.{Mark}
 use Rattle.pr_marks.specs.Row.{above_floor, is_before, is_covered, Rises, with_mark}
 use Rattle.pr_story.specs.Knowledge.{first_of, mark_at}
+use Rattle.pr_story.proofs.NewestNow.{first_none, first_twice}
+use Rattle.pr_node.proofs.Choice.{by_test}
 
 abbrev pub is_at : Point → Point → Bool
 is_at s t = nat_eq s.clock t.clock && nat_eq s.node t.node
@@ -13,18 +15,6 @@ is_at s t = nat_eq s.clock t.clock && nat_eq s.node t.node
 -- the mark, where it has this stamp
 abbrev pub here : Mark → Point → Option Mark
 here m s = cond (is_at m.stamp s) (Some m) None
-
-first_twice : {X : Type 0} (a b c : Option X) → first_of a (first_of b c) ≡ first_of (first_of a b) c
-first_twice (Some x) b c = refl
-first_twice None b c = refl
-
-first_none : {X : Type 0} (a : Option X) → first_of a None ≡ a
-first_none (Some x) = refl
-first_none None = refl
-
-by_test : {A : Type 0} (b : Bool) → (b ≡ true → A) → (b ≡ false → A) → A
-by_test true then otherwise = then refl
-by_test false then otherwise = otherwise refl
 
 -- a stamp after another is not that one
 apart : (x m s : Point) → IsTrue (is_before m x) → is_at m s ≡ true → is_at x s ≡ false

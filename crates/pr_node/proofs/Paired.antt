@@ -16,11 +16,8 @@ use Rattle.pr_story.specs.Marking.{MarksRise, is_conflict, pairs_with, pairs_of}
 use Rattle.pr_story.proofs.Marking.{conflicts_are, conflicts_same}
 use Rattle.pr_story.proofs.Sorted.{contains_none, first_or_later, is_first, is_later}
 use Rattle.pr_node.specs.Ties.{IsMarksOf, IsMarkInRange}
+use Rattle.pr_node.proofs.Choice.{by_test}
 use Rattle.pr_node.proofs.Marked.{is_at, here}
-
-by_test : {A : Type 0} (b : Bool) → (b ≡ true → A) → (b ≡ false → A) → A
-by_test true then otherwise = then refl
-by_test false then otherwise = otherwise refl
 
 -- ---- the pairs, in the words of a history
 

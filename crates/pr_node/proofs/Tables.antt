@@ -17,14 +17,11 @@ use Rattle.pr_story.specs.declared.entry.Entry.{Entry}
 use Rattle.pr_story.specs.declared.plain.named.Named.{Named}
 use Rattle.pr_story.specs.Knowledge.{first_of, floor_after, floor_of, known_mark, mark_of, mark_told}
 use Rattle.pr_story.specs.Search.{later_of, IsOnly, IsNewestIn, IsNewestOf}
-use Rattle.pr_story.proofs.NewestNow.{newest_more}
+use Rattle.pr_story.proofs.NewestNow.{first_none, newest_more}
 use Rattle.pr_node.specs.Ties.{IsMarksOf, IsMarkInRange, named}
+use Rattle.pr_node.proofs.Choice.{by_test}
 use Rattle.pr_node.proofs.Clocks.{floor_same}
 use Rattle.pr_node.proofs.Marked.{IsKept, here, kept_more, all_with}
-
-by_test : {A : Type 0} (b : Bool) → (b ≡ true → A) → (b ≡ false → A) → A
-by_test true then otherwise = then refl
-by_test false then otherwise = otherwise refl
 
 pub named_raised : (n : Option Newest) (x : Newest) → named (Some (raised_to n x)) ≡ later_of (named n) (named (Some x))
 named_raised None x = refl
@@ -62,10 +59,6 @@ marks_marked j a b write o s told f marked is =
     by_test (bytes_eq write.name o)
     (λ t. rw t (subst (λ (x : List ℕ). IsKept a.floor (cond (is_covered a.floor write.stamp) (marks_of a x) (with_mark (marks_of a x) (mark_of write))) s (first_of (known_mark j o s) (here (mark_of write) s))) (sym ((bytes_eq-Decides write.name o).0 t)) (kept_more a.floor (marks_of a o) (mark_of write) s (known_mark j o s) (f.rises o) (f.marks o s))))
     (λ t. rw t (f.marks o s ∙ ap (λ (x : Option Mark). cond (is_covered a.floor s) None x) (sym (first_none (known_mark j o s))))))))
-  where
-    first_none : (x : Option Mark) → first_of x None ≡ x
-    first_none (Some x) = refl
-    first_none None = refl
 
 rises_marked : (a b : Table) (name o : List ℕ) (mark : Mark) (gone : Bool) → ((x : List ℕ) → Rises (marks_of a x)) → IsMarked a b name mark gone → Rises (marks_of b o)
 rises_marked a b name o mark gone rise marked =
@@ -115,7 +108,3 @@ same_marks e j m f floor names told = record {
   from_one = λ o s zero. ap (λ (x : Option Mark). first_of x (mark_told e.event o s)) (f.from_one o s zero) ∙ told o s;
   marks = λ o s. f.marks o s ∙ ap (λ (x : Option Mark). cond (is_covered m.floor s) None x) (sym (ap (λ (t : Option Mark). first_of (known_mark j o s) t) (told o s) ∙ first_none (known_mark j o s)));
 }
-  where
-    first_none : (x : Option Mark) → first_of x None ≡ x
-    first_none (Some x) = refl
-    first_none None = refl

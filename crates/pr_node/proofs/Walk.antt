@@ -26,10 +26,7 @@ use Rattle.pr_story.specs.Turns.{IsBodyToSend}
 use Rattle.pr_story.proofs.Sorted.{contains_none, first_or_later, is_first, is_later}
 use Rattle.pr_node.specs.Sending.{IsNextBodyOf}
 use Rattle.pr_node.specs.Ties.{IsMarksOf, named}
-
-by_test : {A : Type 0} (b : Bool) → (b ≡ true → A) → (b ≡ false → A) → A
-by_test true then otherwise = then refl
-by_test false then otherwise = otherwise refl
+use Rattle.pr_node.proofs.Choice.{by_test}
 
 -- ---- the names of the table
 
