@@ -2,11 +2,13 @@
 ghost use Rattle.pr_inval.specs.declared.node_fault.NodeFault.TheVariants as faults;
 ghost use Rattle.pr_node.specs.Calls.{IsHalted};
 ghost use Rattle.pr_story.specs.Lawful.{last_time};
+ghost use Rattle.pr_story.specs.declared.event.Event.TheVariants.{Behind};
 ghost use Rattle.std.specs.Prelude.{◌≡◌, ◌≤◌, ◌<◌, ◌+◌, ◌++◌, ◌∷◌, [], Err, true, false, IfErr, IfOk, OnOk, max, reverse};
 
 use pr_inval::NodeFault;
 use pr_stamps::MAX;
 use pr_story::{Entry, Event, Journal};
+use pr_vectors::Vector;
 use std::alloc::Global;
 use std::marker::Model;
 
@@ -98,6 +100,21 @@ impl Diary {
         });
         self.last = time;
         self.spent = false;
+    }
+
+    // Makes the entry that a client has seen what the node lacks.
+    pub fn behind(&mut self, time: u64, caller: u32, client: u32, needs: &Vector, has: &Vector)
+        requires room { 0 < self.old.entries.room }
+        requires early { time ≤ 4611686018427387903 }
+        ensures items { self.new.entries.items ≡ self.old.entries.items ++ (record { time = time; caller = caller; event = Behind client needs.now has.now }) ∷ [] }
+        ensures spent { self.new.spent ≡ false }
+    {
+        let event = Event::Behind {
+            client,
+            needs: *needs,
+            has: *has,
+        };
+        self.finish(time, caller, event);
     }
 }
 

@@ -1,19 +1,19 @@
 // A node.
+ghost use Rattle.pr_inval.specs.Standing as Standing;
+ghost use Rattle.pr_inval.specs.Standing.{IsSameSession};
+ghost use Rattle.pr_inval.specs.declared.msg.Msg.{Msg};
+ghost use Rattle.pr_inval.specs.declared.node_fault.NodeFault.TheVariants as faults;
+ghost use Rattle.pr_names.specs.Span.{Span};
 ghost use Rattle.pr_node.specs.Answering.{IsAnswerAt, reply_of};
 ghost use Rattle.pr_node.specs.Calls.{AddsAlone, AddsOfClient, AddsOfStream, HasGoneOn, IsAttachedAt, IsCheckpointSent, IsDone, IsDownFor, IsFault, IsMissed, IsMoveOf, IsSeen, IsStateEvent, IsStep, IsTaken, IsTimeWorn, IsWriteWorn};
 ghost use Rattle.pr_node.specs.Grammar.{IsStepSpelled};
-ghost use Rattle.pr_story.specs.History.{current_vector};
-ghost use Rattle.pr_vectors.specs.Vector.{IsVector};
-ghost use Rattle.pr_wire.specs.Messages.{IsMessage};
-ghost use Rattle.pr_inval.specs.declared.msg.Msg.{Msg};
 ghost use Rattle.pr_node.specs.Stored.{means};
 ghost use Rattle.pr_node.specs.Ties.{AreApart};
-ghost use Rattle.pr_inval.specs.Standing as Standing;
-ghost use Rattle.pr_inval.specs.Standing.{IsSameSession};
-ghost use Rattle.pr_inval.specs.declared.node_fault.NodeFault.TheVariants as faults;
-ghost use Rattle.pr_names.specs.Span.{Span};
+ghost use Rattle.pr_story.specs.History.{current_vector};
 ghost use Rattle.pr_story.specs.declared.entry.Entry.{Entry};
 ghost use Rattle.pr_story.specs.declared.event.Event.TheVariants.{Conflicts, Cut, Dropped};
+ghost use Rattle.pr_vectors.specs.Vector.{IsVector};
+ghost use Rattle.pr_wire.specs.Messages.{IsMessage};
 ghost use Rattle.std.specs.Prelude.{◌≡◌, ◌≤◌, ◌<◌, ◌+◌, [], ℕ, List, true, false, Err, IfErr, IfOk, IsTrue, OnErr, OnOk, length, max, reverse};
 
 use crate::answering::{answer, copy, found, replies};
@@ -159,12 +159,7 @@ impl Node {
         let _ = needs.at(0);
         bytes_in_range(body);
         if !needs.le(&after) {
-            let event = Event::Behind {
-                client,
-                needs: *needs,
-                has: after,
-            };
-            self.diary.finish(time, caller, event);
+            self.diary.behind(time, caller, client, needs, &after);
             return Ok(Done::Behind { has: after });
         }
         let Some(write) = next_write(&self.stores, self.id, name, gone) else {
@@ -265,12 +260,7 @@ impl Node {
         let _ = needs.at(0);
         let _ = name.bytes();
         if !needs.le(&at) {
-            let event = Event::Behind {
-                client,
-                needs: *needs,
-                has: at,
-            };
-            self.diary.finish(time, caller, event);
+            self.diary.behind(time, caller, client, needs, &at);
             return Ok(Seen::Behind { has: at });
         }
         let (answered, kept) = replies(self.alloc, &answer(&self.stores, name))?;
