@@ -28,7 +28,7 @@ use Rattle.pr_story.specs.Ranges.{IsRow}
 use Rattle.pr_story.specs.Search.{later_of, IsNewestRow, IsNewestOf}
 use Rattle.pr_story.proofs.NewestNow.{first_none, first_twice, newest_more, rows_newest, other_row, this_row_of}
 use Rattle.pr_node.specs.Ties.{IsMarksOf, IsMarkInRange, named}
-use Rattle.pr_node.proofs.Choice.{by_test}
+use Rattle.pr_snap.proofs.Choice.{by_test}
 use Rattle.pr_node.proofs.Clocks.{clock_out, floor_out, below_or_not}
 use Rattle.pr_node.proofs.Marked.{IsKept, here, is_at, kept_more, covered_alike, all_with, all_above}
 use Rattle.pr_node.proofs.Tables.{named_raised}

@@ -1,4 +1,3 @@
-pub mod Choice
 pub mod Clocks
 pub mod Logs
 pub mod Points

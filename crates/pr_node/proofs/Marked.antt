@@ -7,7 +7,7 @@ use Rattle.pr_stamps.specs.declared.mark.Mark.{Mark}
 use Rattle.pr_marks.specs.Row.{above_floor, is_before, is_covered, Rises, with_mark}
 use Rattle.pr_story.specs.Knowledge.{first_of, mark_at}
 use Rattle.pr_story.proofs.NewestNow.{first_none, first_twice}
-use Rattle.pr_node.proofs.Choice.{by_test}
+use Rattle.pr_snap.proofs.Choice.{by_test}
 
 abbrev pub is_at : Point → Point → Bool
 is_at s t = nat_eq s.clock t.clock && nat_eq s.node t.node

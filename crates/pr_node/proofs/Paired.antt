@@ -16,7 +16,7 @@ use Rattle.pr_story.specs.Marking.{MarksRise, is_conflict, pairs_with, pairs_of}
 use Rattle.pr_story.proofs.Marking.{conflicts_are, conflicts_same}
 use Rattle.pr_story.proofs.Sorted.{contains_none, first_or_later, is_first, is_later}
 use Rattle.pr_node.specs.Ties.{IsMarksOf, IsMarkInRange}
-use Rattle.pr_node.proofs.Choice.{by_test}
+use Rattle.pr_snap.proofs.Choice.{by_test}
 use Rattle.pr_node.proofs.Marked.{is_at, here}
 
 -- ---- the pairs, in the words of a history

@@ -30,10 +30,11 @@ use Rattle.pr_story.specs.Told.{IsPrecise, first_with, rest_of, set_of}
 use Rattle.pr_story.specs.Turns.{IsSnapshot, IsSnapshotRow}
 use Rattle.pr_story.proofs.Sorted.{contains_none, first_or_later, is_first, is_later}
 use Rattle.pr_node.specs.Ties.{AreApart, IsGapsOf, IsMarksOf, named}
-use Rattle.pr_node.proofs.Choice.{by_test}
+use Rattle.pr_snap.proofs.Choice.{by_test}
 use Rattle.pr_node.proofs.Clocks.{below_or_not, clock_out}
 use Rattle.pr_node.proofs.Marked.{is_at}
-use Rattle.pr_node.proofs.Walk.{comes_first, names_later, newest_held}
+use Rattle.pr_snap.proofs.Found.{comes_first, names_later}
+use Rattle.pr_snap.proofs.Known.{newest_held}
 
 some_is : {A : Type 0} (x y : A) → Some x ≡ Some y → x ≡ y
 some_is x y e = cc

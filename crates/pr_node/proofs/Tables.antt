@@ -19,7 +19,7 @@ use Rattle.pr_story.specs.Knowledge.{first_of, floor_after, floor_of, known_mark
 use Rattle.pr_story.specs.Search.{later_of, IsOnly, IsNewestIn, IsNewestOf}
 use Rattle.pr_story.proofs.NewestNow.{first_none, newest_more}
 use Rattle.pr_node.specs.Ties.{IsMarksOf, IsMarkInRange, named}
-use Rattle.pr_node.proofs.Choice.{by_test}
+use Rattle.pr_snap.proofs.Choice.{by_test}
 use Rattle.pr_node.proofs.Clocks.{floor_same}
 use Rattle.pr_node.proofs.Marked.{IsKept, here, kept_more, all_with}
 

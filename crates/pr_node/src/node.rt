@@ -311,8 +311,8 @@ impl Node {
 
     /// The turn of a stream at its source ("PRACTI Replication", NSDI 2006, section 3.1): its next invalidation; where
     /// it has told all, the next body, if it sends bodies; or that it lies behind the cut, so that it wants a
-    /// checkpoint. It takes the time of the log's calls, and for a body a logarithmic look at each known name up to the
-    /// one that it sends.
+    /// checkpoint. It takes the time of the log's calls, and for a body a logarithmic look at each known name of the
+    /// subscription, up to the one that it sends.
     pub fn turn(&mut self, caller: u32, session: &mut Session) -> Result<Step, NodeFault>
         requires { IsTrue (Standing.means session.old).attached }
         ensures grammar { IfOk result IsStepSpelled }

@@ -1,3 +1,10 @@
+pub mod Choice
+pub mod NameOrder
 pub mod Names
+pub mod Found
+pub mod Known
+pub mod KnownNames
+pub mod Outside
+pub mod Rows
 pub mod Targets
 pub mod Turns

@@ -1,39 +1,9 @@
 -- The walk over names in order.
-use Rattle.std.proofs.Common.{◌≡◌, ℕ, ◌<◌, zero, suc, List, [], ◌∷◌, Option, None, Some, Bool, true, false, cond, refl, sym, ◌++◌, ◌∙◌, ap, subst, filter, find, get_or, length, arith}
+use Rattle.std.proofs.Common.{◌≡◌, ℕ, ◌<◌, zero, suc, List, [], ◌∷◌, Option, None, Some, Bool, true, false, cond, refl, sym, ◌∙◌, ap, subst, filter, find, get_or, length, arith}
 use Rattle.std.specs.Prelude.{All, AllPairs, IsTrue}
-use Rattle.std.specs.Ordering.{is_lt, nat_cmp, ordering_reverse}
-use Rattle.std.specs.declared.cmp.Ordering.{Ordering}
-use Rattle.std.specs.declared.cmp.Ordering.TheVariants.{Less, Equal, Greater}
-use Rattle.std.specs.Cmp.Lexicographic.{slice_cmp}
-use Rattle.std.proofs.lemmas.Cmp.{nat_list_cmp_total}
 use Rattle.pr_names.specs.Order.{name_lt}
-use Rattle.pr_names.proofs.Places.{lt_cmp}
-use Rattle.std.proofs.lemmas.List.{append_assoc, append-nil}
-use Rattle.pr_names.specs.Span.{Span}
-use Rattle.pr_inval.specs.declared.row.Row.{Row}
-use Rattle.pr_marks.specs.Table.{Table, is_after}
-use Rattle.pr_snap.specs.Build.{row_in, rows_at}
-
-less_of : (r : Ordering) → is_lt r ≡ true → r ≡ Less
-less_of Less h = refl
-less_of Equal h = absurd (cc)
-less_of Greater h = absurd (cc)
-
-less : (a b : List ℕ) → name_lt a b ≡ true → slice_cmp nat_cmp a b ≡ Less
-less a b h = less_of (slice_cmp nat_cmp a b) (sym (lt_cmp a b) ∙ h)
-
-lt_trans : (a b c : List ℕ) → name_lt a b ≡ true → name_lt b c ≡ true → name_lt a c ≡ true
-lt_trans a b c h g = lt_cmp a c ∙ ap is_lt (nat_list_cmp_total.trans a b c (less a b h) (less b c g))
-
-lt_asym : (a b : List ℕ) → name_lt a b ≡ true → name_lt b a ≡ false
-lt_asym a b h = lt_cmp b a ∙ ap is_lt (nat_list_cmp_total.antisymm b a ∙ ap ordering_reverse (less a b h))
-
-denied : (b : Bool) → (b ≡ true → b ≡ false) → b ≡ false
-denied true h = h refl
-denied false h = refl
-
-lt_self : (a : List ℕ) → name_lt a a ≡ false
-lt_self a = denied (name_lt a a) (lt_asym a a)
+use Rattle.pr_marks.specs.Table.{is_after}
+use Rattle.pr_snap.proofs.NameOrder.{lt_trans, not_itself, one_way}
 
 all_kept : (q : List ℕ → Bool) (ns : List (List ℕ)) → All (λ (n : List ℕ). q n ≡ true) ns → filter q ns ≡ ns
 all_kept q [] h = refl
@@ -61,11 +31,11 @@ rise_tail : (n : List ℕ) (ns : List (List ℕ)) → Rise (n ∷ ns) → Rise n
 rise_tail n ns h i j d lt within = h (suc i) (suc j) d (omega arith) (omega arith)
 
 rest_first : (p : List ℕ → Bool) → ((a b : List ℕ) → p a ≡ true → name_lt a b ≡ true → p b ≡ true) → (n : List ℕ) (ns : List (List ℕ)) (o : List ℕ) → Rise (n ∷ ns) → p n ≡ true → n ≡ o → n ∷ filter p ns ≡ o ∷ cond (name_lt o n) (n ∷ filter (name_lt o) ns) (filter (name_lt o) ns)
-rest_first p up n ns o rise passes e = rw (← e) (rw (lt_self n) (ap (λ t. n ∷ t) (all_kept p ns (λ k d lt. up n (get_or ns k d) passes (rise_head n ns rise k d lt)) ∙ sym (all_kept (name_lt n) ns (rise_head n ns rise)))))
+rest_first p up n ns o rise passes e = rw (← e) (rw (not_itself n) (ap (λ t. n ∷ t) (all_kept p ns (λ k d lt. up n (get_or ns k d) passes (rise_head n ns rise k d lt)) ∙ sym (all_kept (name_lt n) ns (rise_head n ns rise)))))
 
 rest_step : (p : List ℕ → Bool) → ((a b : List ℕ) → p a ≡ true → name_lt a b ≡ true → p b ≡ true) → (n : List ℕ) (ns : List (List ℕ)) (o : List ℕ) → Rise (n ∷ ns) → (b : Bool) → p n ≡ b → (find p ns ≡ Some o → filter p ns ≡ o ∷ filter (name_lt o) ns) → cond b (Some n) (find p ns) ≡ Some o → cond b (n ∷ filter p ns) (filter p ns) ≡ o ∷ cond (name_lt o n) (n ∷ filter (name_lt o) ns) (filter (name_lt o) ns)
 rest_step p up n ns o rise true e more is = rest_first p up n ns o rise e (some_is n o is)
-rest_step p up n ns o rise false e more is = rw (lt_asym n o (found_one (λ x. name_lt n x ≡ true) p ns o (rise_head n ns rise) is)) (more is)
+rest_step p up n ns o rise false e more is = rw (one_way n o (found_one (λ x. name_lt n x ≡ true) p ns o (rise_head n ns rise) is)) (more is)
 
 -- the names after one are the next one and the names after that
 next_rest : (p : List ℕ → Bool) → ((a b : List ℕ) → p a ≡ true → name_lt a b ≡ true → p b ≡ true) → (ns : List (List ℕ)) (o : List ℕ) → Rise ns → find p ns ≡ Some o → filter p ns ≡ o ∷ filter (name_lt o) ns
@@ -80,27 +50,9 @@ after_up (Some l) a b h g = lt_trans l a b h g
 pub next_names : (last : Option (List ℕ)) (ns : List (List ℕ)) (o : List ℕ) → Rise ns → find (is_after last) ns ≡ Some o → filter (is_after last) ns ≡ o ∷ filter (is_after (Some o)) ns
 next_names last ns o rise is = next_rest (is_after last) (after_up last) ns o rise is
 
-none_step : (p : List ℕ → Bool) (n : List ℕ) (ns : List (List ℕ)) (b : Bool) → (find p ns ≡ None → filter p ns ≡ []) → cond b (Some n) (find p ns) ≡ None → cond b (n ∷ filter p ns) (filter p ns) ≡ []
-none_step p n ns true more is = absurd (cc)
-none_step p n ns false more is = more is
-
-pub no_names : (p : List ℕ → Bool) (ns : List (List ℕ)) → find p ns ≡ None → filter p ns ≡ []
-no_names p [] is = refl
-no_names p (n ∷ ns) is = none_step p n ns (p n) (no_names p ns) is
-
 pub all_names : (ns : List (List ℕ)) → filter (is_after None) ns ≡ ns
 all_names [] = refl
 all_names (n ∷ ns) = ap (λ t. n ∷ t) (all_names ns)
-
--- one name's row more
-pub rows_turn : (m : Table) (target : List Span) (last : Option (List ℕ)) (ns : List (List ℕ)) (o : List ℕ) (so_far more : List Row) → Rise ns → Some o ≡ find (is_after last) ns → more ≡ so_far ++ row_in m target o → so_far ++ rows_at m target (filter (is_after last) ns) ≡ rows_at m target ns → more ++ rows_at m target (filter (is_after (Some o)) ns) ≡ rows_at m target ns
-rows_turn m target last ns o so_far more rise is added h =
-    ap (λ t. t ++ rows_at m target (filter (is_after (Some o)) ns)) added
-    ∙ append_assoc so_far (row_in m target o) (rows_at m target (filter (is_after (Some o)) ns))
-    ∙ ap (λ t. so_far ++ rows_at m target t) (sym (next_names last ns o rise (sym is))) ∙ h
-
-pub rows_end : (m : Table) (target : List Span) (last : Option (List ℕ)) (ns : List (List ℕ)) (so_far : List Row) → None ≡ find (is_after last) ns → so_far ++ rows_at m target (filter (is_after last) ns) ≡ rows_at m target ns → so_far ≡ rows_at m target ns
-rows_end m target last ns so_far is h = sym (append-nil so_far) ∙ ap (λ t. so_far ++ rows_at m target t) (sym (no_names (is_after last) ns (sym is))) ∙ h
 
 pub fewer : (last : Option (List ℕ)) (ns : List (List ℕ)) (o : List ℕ) → Rise ns → Some o ≡ find (is_after last) ns → length (filter (is_after (Some o)) ns) < length (filter (is_after last) ns)
 fewer last ns o rise is = rw (next_names last ns o rise (sym is)) (omega arith)

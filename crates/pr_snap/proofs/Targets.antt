@@ -45,11 +45,11 @@ none_below P A no_one = (λ a. absurd (no_one a), back)
     back : ((i : ℕ) × (i < 0) × P i) → A
     back (i, lt, p) = absurd (omega (arith, lt))
 
-both_of : (p q : Bool) → (p && q) ≡ true → (p ≡ true) × (q ≡ true)
+pub both_of : (p q : Bool) → (p && q) ≡ true → (p ≡ true) × (q ≡ true)
 both_of true q h = (refl, h)
 both_of false q h = absurd (cc)
 
-of_both : (p q : Bool) → p ≡ true → q ≡ true → (p && q) ≡ true
+pub of_both : (p q : Bool) → p ≡ true → q ≡ true → (p && q) ≡ true
 of_both p q h g = rw h g
 
 -- the names that are in some precise set, of all sets

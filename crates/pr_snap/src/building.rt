@@ -1,11 +1,12 @@
 // The checkpoint of a node.
 ghost use Rattle.pr_gaps.specs.Gaps.{IsLeastUntold, set_at};
-ghost use Rattle.pr_marks.specs.Table.{NamesRise, names_of};
+ghost use Rattle.pr_marks.specs.Table.{NamesRise, names_of, newest_of};
 ghost use Rattle.pr_names.specs.Name.{IsName};
 ghost use Rattle.pr_sets.specs.Spans.{IsAllBut, has};
-ghost use Rattle.pr_snap.specs.Build.{IsBuilt, IsPreciseName, row_in, rows_at};
+ghost use Rattle.pr_snap.specs.Build.{IsBuilt, IsPreciseName, row_with, rows_at};
 ghost use Rattle.std.specs.Prelude.{◌≡◌, ◌≤◌, ◌⊎◌, ◌↔◌, ◌++◌, ℕ, List, None, length, IsTrue, IfOk, OnOk};
 
+use crate::known_names::next_known_outside;
 use pr_gaps::Gaps;
 use pr_inval::{Kind, Row};
 use pr_marks::Marks;
@@ -15,7 +16,8 @@ use pr_stamps::{NoMemory, Seq};
 use std::alloc::Global;
 
 /// The checkpoint of these names ("PRACTI Replication", NSDI 2006, section 3.3). It takes time linear in the marks of the
-/// rows, logarithmic in the names for each known name, and linear in the intervals of the sets for each set.
+/// rows, logarithmic in the known names for each row and each interval of the target, and linear in the intervals of the
+/// sets for each set.
 pub fn build(alloc: Global, gaps: &Gaps, marks: &Marks, sub: &NameSet) -> Result<Kind, NoMemory>
     ensures { IfOk result (IsBuilt gaps.now marks.now sub.now) }
 {
@@ -71,26 +73,17 @@ fn rows(alloc: Global, marks: &Marks, target: &NameSet) -> Result<Seq<Row>, NoMe
 {
     let mut rows = Seq::new(alloc);
     let mut last = None;
-    while let Some(name) = marks.next_known(&last) {
-        add_row(alloc, marks, target, &name, &mut rows)?;
+    while let Some(name) = next_known_outside(marks, target, &last) {
+        add_row(alloc, marks, &name, &mut rows)?;
         last = Some(name);
     }
     Ok(rows)
 }
 
-// Adds the row of a known name, unless the target has it.
-fn add_row(
-    alloc: Global,
-    marks: &Marks,
-    target: &NameSet,
-    name: &Name,
-    rows: &mut Seq<Row>,
-) -> Result<(), NoMemory>
-    ensures { OnOk result (rows.new ≡ rows.old ++ row_in marks.now target.now name.now) }
+// Adds the row of a name, if it is known.
+fn add_row(alloc: Global, marks: &Marks, name: &Name, rows: &mut Seq<Row>) -> Result<(), NoMemory>
+    ensures { OnOk result (rows.new ≡ rows.old ++ row_with marks.now name.now (newest_of marks.now name.now)) }
 {
-    if target.has(name) {
-        return Ok(());
-    }
     match marks.newest(name) {
         Some(newest) => {
             let marks = Seq::copied(alloc, marks.marks(name))?;

@@ -3,8 +3,10 @@
 
 mod applying;
 mod building;
+mod known_names;
 #[cfg(test)]
 mod tests;
 
 pub use applying::apply;
 pub use building::build;
+pub use known_names::next_known_in;

@@ -1,7 +1,7 @@
-use crate::{apply, build};
+use crate::{apply, build, next_known_in};
 use pr_gaps::Gaps;
 use pr_inval::{Kind, Row};
-use pr_marks::Marks;
+use pr_marks::{Marks, Newest};
 use pr_names::Name;
 use pr_sets::NameSet;
 use pr_stamps::{Mark, Seq, Stamp};
@@ -118,5 +118,47 @@ fn a_set_that_is_not_precise_is_left_out(rt: HostRuntime) -> Result<(), Fail> {
     let rows = rows.as_slice();
     assert_eq!(rt; (target.count(), rows.len()), (1, 1));
     assert!(rt; is_row(&rows[0], b"b", 2, true, 0));
+    Ok(())
+}
+
+// ---- known names
+
+// A table that knows these names.
+fn knows(alloc: Global, names: &[&[u8]]) -> Option<Marks> {
+    let mut marks = Marks::new(alloc);
+    let newest = Newest {
+        stamp: Stamp::new(1, 0)?,
+        gone: false,
+    };
+    for name in names {
+        marks.raise(&Name::read(name).ok()?, &newest).ok()?;
+    }
+    Some(marks)
+}
+
+// Whether past the first name, or past none, the second one is the next of the set, or none is.
+fn is_next(marks: &Marks, names: &NameSet, above: &[u8], next: &[u8]) -> bool {
+    match next_known_in(marks, names, &Name::read(above).ok()) {
+        Some(name) => name.bytes() == next,
+        None => next.is_empty(),
+    }
+}
+
+#[test]
+fn known_names_of_a_set(rt: HostRuntime) -> Result<(), Fail> {
+    let known: [&[u8]; 7] = [b"a", b"b", b"b/x", b"c", b"d", b"e", b"f"];
+    let marks = knows(rt.alloc(), &known).ok_or("a table")?;
+    let set = NameSet::read(rt.alloc(), b"b,d:f", 16);
+    let set = set.ok().ok_or("a set")?;
+    let steps: [(&[u8], &[u8]); 5] = [
+        (b"", b"b"),
+        (b"b", b"d"),
+        (b"c", b"d"),
+        (b"d", b"e"),
+        (b"e", b""),
+    ];
+    for (above, next) in steps {
+        assert!(rt; is_next(&marks, &set, above, next));
+    }
     Ok(())
 }
