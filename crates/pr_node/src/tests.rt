@@ -1,4 +1,16 @@
 // Tests of a node.
 
+mod acting;
+mod alike;
 mod building;
+mod call;
+mod expected;
+mod forging;
+mod frame;
+mod random;
+mod same;
+mod site;
 mod small;
+mod stream;
+mod worked;
+mod world;

@@ -1,10 +1,13 @@
 // Small cases at B.
 
-use crate::tests::building::{A, B, body, give, imprecise, is_at, is_of_grammar, name, node};
+use crate::tests::building::{A, B, ZERO, is_at, name, node};
+use crate::tests::call::Forgery;
+use crate::tests::forging::forged;
 use crate::{Answer, Node};
-use pr_inval::{Msg, NodeFault, Taken};
+use pr_inval::{NodeFault, Taken};
 use pr_stamps::MAX;
 use pr_vectors::Vector;
+use std::alloc::Global;
 use std::test::Fail;
 
 fn is_worn<T>(answer: &Result<T, NodeFault>) -> bool {
@@ -22,12 +25,12 @@ fn write_is_worn(node: &mut Node) -> bool {
     }
 }
 
-// Whether the message is refused, since the node's time would be worn.
-fn message_is_worn(node: &mut Node, msg: Msg) -> bool {
-    if !is_of_grammar(&msg) {
-        return false;
+// Whether the body is refused, since the node's time would be worn.
+fn body_is_worn(alloc: Global, node: &mut Node) -> bool {
+    match forged(alloc, MAX, &Forgery::Body(b"a/x", (1, A), b"body")) {
+        Some(msg) => is_worn(&node.accept(1, msg)),
+        None => false,
     }
-    is_worn(&node.accept(1, msg))
 }
 
 // Whether the node has done nothing.
@@ -35,18 +38,22 @@ fn is_new(node: &Node) -> bool {
     node.journal().len() == 0 && node.vector() == Vector::zero() && !node.is_spent()
 }
 
-fn is_accepted(taken: &Option<Taken>) -> bool {
-    match taken {
-        Some(Taken::Accepted { .. }) => true,
-        _ => false,
+// Whether the node takes an imprecise message from zero up to this clock of A.
+fn is_accepted(alloc: Global, node: &mut Node, time: u64, clock: u64, target: &[u8]) -> bool {
+    match forged(
+        alloc,
+        time,
+        &Forgery::Imprecise(target, ZERO, [clock, 0, 0]),
+    ) {
+        Some(msg) => matches!(node.accept(1, msg), Ok(Taken::Accepted { .. })),
+        None => false,
     }
 }
 
 #[test]
 fn a_clock_wears_out(rt: HostRuntime) -> Result<(), Fail> {
     let mut node = node(rt.alloc(), B, b"~", b"~").ok_or("a node")?;
-    let msg = imprecise(rt.alloc(), 5, MAX, b"~").ok_or("a message")?;
-    assert!(rt; is_accepted(&give(&mut node, 1, msg)));
+    assert!(rt; is_accepted(rt.alloc(), &mut node, 5, MAX, b"~"));
     assert!(rt; write_is_worn(&mut node));
     Ok(())
 }
@@ -54,8 +61,7 @@ fn a_clock_wears_out(rt: HostRuntime) -> Result<(), Fail> {
 #[test]
 fn a_time_wears_out(rt: HostRuntime) -> Result<(), Fail> {
     let mut node = node(rt.alloc(), B, b"~", b"~").ok_or("a node")?;
-    let msg = body(rt.alloc(), MAX, b"a/x", 1).ok_or("a message")?;
-    assert!(rt; message_is_worn(&mut node, msg));
+    assert!(rt; body_is_worn(rt.alloc(), &mut node));
     assert!(rt; is_new(&node));
     Ok(())
 }
@@ -85,9 +91,8 @@ fn is_imprecise(answer: &Answer<'_>, clock: u64) -> bool {
 #[test]
 fn a_point_of_a_set_is_untold(rt: HostRuntime) -> Result<(), Fail> {
     let mut node = node(rt.alloc(), B, b"a/*", b"~").ok_or("a node")?;
-    let msg = imprecise(rt.alloc(), 1, 1, b"a/x").ok_or("a message")?;
     assert!(rt; is_never(&node, b"a/x"));
-    assert!(rt; is_accepted(&give(&mut node, 1, msg)));
+    assert!(rt; is_accepted(rt.alloc(), &mut node, 1, 1, b"a/x"));
     assert!(rt; is_untold(&node, b"a/x", 1));
     assert!(rt; is_never(&node, b"b"));
     Ok(())
