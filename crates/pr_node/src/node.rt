@@ -3,18 +3,16 @@ ghost use Rattle.pr_inval.specs.Standing as Standing;
 ghost use Rattle.pr_inval.specs.Standing.{IsSameSession};
 ghost use Rattle.pr_inval.specs.declared.msg.Msg.{Msg};
 ghost use Rattle.pr_inval.specs.declared.node_fault.NodeFault.TheVariants as faults;
-ghost use Rattle.pr_names.specs.Span.{Span};
 ghost use Rattle.pr_node.specs.Answering.{IsAnswerAt, reply_of};
 ghost use Rattle.pr_node.specs.Calls.{AddsAlone, AddsOfClient, AddsOfStream, HasGoneOn, IsAttachedAt, IsCheckpointSent, IsDone, IsDownFor, IsFault, IsMissed, IsMoveOf, IsSeen, IsStateEvent, IsStep, IsTaken, IsTimeWorn, IsWriteWorn};
 ghost use Rattle.pr_node.specs.Grammar.{IsStepSpelled};
 ghost use Rattle.pr_node.specs.Stored.{means};
 ghost use Rattle.pr_node.specs.Ties.{AreApart};
 ghost use Rattle.pr_story.specs.History.{current_vector};
-ghost use Rattle.pr_story.specs.declared.entry.Entry.{Entry};
 ghost use Rattle.pr_story.specs.declared.event.Event.TheVariants.{Conflicts, Cut, Dropped};
 ghost use Rattle.pr_vectors.specs.Vector.{IsVector};
 ghost use Rattle.pr_wire.specs.Messages.{IsMessage};
-ghost use Rattle.std.specs.Prelude.{◌≡◌, ◌≤◌, ◌<◌, ◌+◌, [], ℕ, List, true, false, Err, IfErr, IfOk, IsTrue, OnErr, OnOk, length, max, reverse};
+ghost use Rattle.std.specs.Prelude.{◌≡◌, ◌≤◌, ◌<◌, [], true, false, Err, IfErr, IfOk, IsTrue, OnErr, OnOk, length, reverse};
 
 use crate::answering::{answer, copy, found, replies};
 use crate::diary::Diary;
@@ -39,7 +37,8 @@ use std::alloc::Global;
 use std::marker::Model;
 
 /// One node of a replicated store. Each call that takes a caller's number makes exactly one entry of its journal, and
-/// nothing else of it is seen. After want of memory it is spent: its journal stays, and each later such call is refused.
+/// nothing else of it is seen. After want of memory it is spent: its journal stays, and each later such call is
+/// refused.
 #[derive(Drop)]
 pub struct Node {
     alloc: Global,
@@ -180,8 +179,8 @@ impl Node {
     }
 
     /// Takes a message of a stream, or finds that one before it is missing ("PRACTI Replication", NSDI 2006, section
-    /// 3.2). It takes the time of the stores' calls: what stands between the points of an invalidation, and the rows of a
-    /// checkpoint. The name's bodies that a later write makes useless are dropped.
+    /// 3.2). It takes the time of the stores' calls: what stands between the points of an invalidation, and the rows
+    /// of a checkpoint. The name's bodies that a later write makes useless are dropped.
     pub fn accept(&mut self, caller: u32, msg: Msg) -> Result<Taken, NodeFault>
         requires { IsMessage msg }
         ensures ok { IfOk result (λ taken. AddsAlone (means self.old) (means self.new) caller (IsTaken msg taken)) }
@@ -203,8 +202,8 @@ impl Node {
         Ok(Taken::Accepted { time })
     }
 
-    /// Truncates the log up to the node's vector, which is answered, and forgets the marks that it covers. It takes time
-    /// linear in what is forgotten and in the known names, and no memory but for the entry.
+    /// Truncates the log up to the node's vector, which is answered, and forgets the marks that it covers. It takes
+    /// time linear in what is forgotten and in the known names, and no memory but for the entry.
     pub fn cut(&mut self, caller: u32) -> Result<Vector, NodeFault>
         ensures ok { IfOk result (λ at. AddsAlone (means self.old) (means self.new) caller (λ e. e.event ≡ Cut at)) }
         ensures fault { IfErr result (IsFault (means self.old) (means self.new) (IsTimeWorn (means self.old) 0)) }
@@ -233,8 +232,8 @@ impl Node {
         Ok(())
     }
 
-    /// The newest write to a name, by what the node was told, for a node that is not spent. It takes no memory, and time
-    /// linear in the sets and logarithmic in the names and bodies.
+    /// The newest write to a name, by what the node was told, for a node that is not spent. It takes no memory, and
+    /// time linear in the sets and logarithmic in the names and bodies.
     pub fn look(&self, name: &Name) -> Answer<'_>
         requires { (means self.now).spent ≡ false }
         ensures { IsAnswerAt (means self.now) name.now (reply_of result) }
@@ -242,8 +241,8 @@ impl Node {
         answer(&self.stores, name)
     }
 
-    /// A client's read, which is answered as by `look`, or Behind where the node's vector lacks some of `needs`, what the
-    /// client has seen. It takes the time of `look`, and copies the body.
+    /// A client's read, which is answered as by `look`, or Behind where the node's vector lacks some of `needs`, what
+    /// the client has seen. It takes the time of `look`, and copies the body.
     pub fn read(
         &mut self,
         caller: u32,
@@ -290,8 +289,8 @@ impl Node {
         Ok(answered)
     }
 
-    /// Tells the node's state: its vector, cut and floor, and up to where each of its sets is precise, the rest last. It
-    /// takes the time of `Gaps::last_precise` for each set.
+    /// Tells the node's state: its vector, cut and floor, and up to where each of its sets is precise, the rest last.
+    /// It takes the time of `Gaps::last_precise` for each set.
     pub fn state(&mut self, caller: u32) -> Result<(), NodeFault>
         ensures ok { IfOk result (λ _. AddsAlone (means self.old) (means self.new) caller (λ e. IsStateEvent e.event)) }
         ensures fault { IfErr result (IsFault (means self.old) (means self.new) (IsTimeWorn (means self.old) 0)) }

@@ -5,8 +5,8 @@ use pr_gaps::Gaps;
 use pr_log::Log;
 use pr_marks::Marks;
 
-/// What a node keeps beside its journal, so that no call walks the journal: the log, the told points, the bodies and the
-/// marks.
+/// What a node keeps beside its journal, so that no call walks the journal: the log, the told points, the bodies and
+/// the marks.
 #[derive(Drop)]
 pub struct Stores {
     pub log: Log,

@@ -9,7 +9,7 @@ ghost use Rattle.pr_story.specs.declared.event.Event.TheVariants.{Wrote};
 ghost use Rattle.pr_vectors.specs.Vector.{clock_of};
 ghost use Rattle.pr_wire.specs.Messages.{IsPrev};
 ghost use Rattle.std.specs.Option.{option_map};
-ghost use Rattle.std.specs.Prelude.{◌≡◌, ◌<◌, ◌∷◌, ℕ, List, false, None, IfSome, OnOk, length, ◌≤◌};
+ghost use Rattle.std.specs.Prelude.{◌≡◌, ◌<◌, ◌≤◌, ◌∷◌, ℕ, List, None, IfSome, OnOk, length};
 
 use crate::Stores;
 use pr_bodies::Bodies;

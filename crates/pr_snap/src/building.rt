@@ -15,9 +15,9 @@ use pr_sets::NameSet;
 use pr_stamps::{NoMemory, Seq};
 use std::alloc::Global;
 
-/// The checkpoint of these names ("PRACTI Replication", NSDI 2006, section 3.3). It takes time linear in the marks of the
-/// rows, logarithmic in the known names for each row and each interval of the target, and linear in the intervals of the
-/// sets for each set.
+/// The checkpoint of these names ("PRACTI Replication", NSDI 2006, section 3.3). It takes time linear in the marks of
+/// the rows, logarithmic in the known names for each row and each interval of the target, and linear in the intervals
+/// of the sets for each set.
 pub fn build(alloc: Global, gaps: &Gaps, marks: &Marks, sub: &NameSet) -> Result<Kind, NoMemory>
     ensures { IfOk result (IsBuilt gaps.now marks.now sub.now) }
 {

@@ -34,8 +34,8 @@ pub fn next_known_in(marks: &Marks, names: &NameSet, above: &Option<Name>) -> Op
     None
 }
 
-// The least known name that the set lacks and that comes after this one, if there is one. Known names in one interval of
-// the set are passed over at once, as by `next_known_in`.
+// The least known name that the set lacks and that comes after this one, if there is one. Known names in one interval
+// of the set are passed over at once, as by `next_known_in`.
 pub fn next_known_outside(marks: &Marks, names: &NameSet, above: &Option<Name>) -> Option<Name>
     ensures value { result ≡ find (λ o. is_after above.now o && not (has names.now o)) (names_of marks.now) }
     ensures order { NamesRise marks.now }

@@ -10,149 +10,94 @@ pub fn is_same_entry(a: &Entry, b: &Entry) -> bool {
 }
 
 fn is_same_event(a: &Event, b: &Event) -> bool {
-    match (a, b) {
-        (Event::Sent { msg }, Event::Sent { msg: other }) => is_same_message(msg, other),
-        (
-            Event::Accepted { msg, at },
-            Event::Accepted {
-                msg: other,
-                at: end,
-            },
-        ) => { at == end && is_same_message(msg, other) }
-        (
-            Event::Gapped { msg, has },
-            Event::Gapped {
-                msg: other,
-                has: end,
-            },
-        ) => { has == end && is_same_message(msg, other) }
-        (Event::Idle { stream }, Event::Idle { stream: other }) => stream == other,
-        (
-            Event::Stale { stream, cut },
-            Event::Stale {
-                stream: other,
-                cut: end,
-            },
-        ) => { stream == other && cut == end }
-        (Event::Cut { at }, Event::Cut { at: end }) => at == end,
-        (Event::Dropped { name }, Event::Dropped { name: other }) => name == other,
-        _ => is_same_told(a, b),
+    match a {
+        Event::Attached { stream, at } => {
+            matches!(b, Event::Attached { stream: s, at: v } if s == stream && v == at)
+        }
+        Event::Sent { msg } => matches!(b, Event::Sent { msg: m } if is_same_message(m, msg)),
+        Event::Idle { stream } => matches!(b, Event::Idle { stream: s } if s == stream),
+        Event::Stale { stream, cut } => {
+            matches!(b, Event::Stale { stream: s, cut: v } if s == stream && v == cut)
+        }
+        Event::Accepted { msg, at } => {
+            matches!(b, Event::Accepted { msg: m, at: v } if v == at && is_same_message(m, msg))
+        }
+        Event::Gapped { msg, has } => {
+            matches!(b, Event::Gapped { msg: m, has: v } if v == has && is_same_message(m, msg))
+        }
+        Event::Missing { stream, number } => {
+            matches!(b, Event::Missing { stream: s, number: n } if s == stream && n == number)
+        }
+        Event::Down { stream, cause } => {
+            matches!(b, Event::Down { stream: s, cause: c } if s == stream && c == cause)
+        }
+        _ => is_same_call(a, b),
     }
 }
 
-fn is_same_told(a: &Event, b: &Event) -> bool {
-    match (a, b) {
-        (
-            Event::Attached { stream, at },
-            Event::Attached {
-                stream: other,
-                at: start,
-            },
-        ) => { stream == other && at == start }
-        (
-            Event::Missing { stream, number },
-            Event::Missing {
-                stream: other,
-                number: n,
-            },
-        ) => { stream == other && number == n }
-        (
-            Event::Down { stream, cause },
-            Event::Down {
-                stream: other,
-                cause: c,
-            },
-        ) => { stream == other && cause == c }
-        (
-            Event::Conflicts { name, found },
-            Event::Conflicts {
-                name: other,
-                found: pairs,
-            },
-        ) => { name == other && is_same_found(found, pairs) }
-        (
-            Event::State {
-                at,
-                cut,
-                floor,
-                precise,
-            },
-            Event::State {
-                at: v,
-                cut: c,
-                floor: f,
-                precise: p,
-            },
-        ) => { at == v && cut == c && floor == f && precise.as_slice() == p.as_slice() }
-        _ => is_same_for_client(a, b),
-    }
-}
-
-fn is_same_for_client(a: &Event, b: &Event) -> bool {
-    match (a, b) {
-        (
-            Event::Wrote {
-                client,
-                write,
-                body,
-                after,
-            },
-            Event::Wrote {
-                client: c,
-                write: w,
-                body: bytes,
-                after: v,
-            },
-        ) => { client == c && write == w && body.as_slice() == bytes.as_slice() && after == v }
-        (
-            Event::Answered {
-                client,
-                name,
-                reply,
-                at,
-            },
-            Event::Answered {
-                client: c,
-                name: o,
-                reply: r,
-                at: v,
-            },
-        ) => { client == c && name == o && at == v && is_same_reply(reply, r) }
-        (
-            Event::Behind { client, needs, has },
-            Event::Behind {
-                client: c,
-                needs: n,
-                has: v,
-            },
-        ) => { client == c && needs == n && has == v }
-        (Event::Moved { client }, Event::Moved { client: c }) => client == c,
+// Of events that are of no stream.
+fn is_same_call(a: &Event, b: &Event) -> bool {
+    match a {
+        Event::Wrote {
+            client,
+            write,
+            body,
+            after,
+        } => matches!(
+            b,
+            Event::Wrote { client: c, write: w, body: s, after: v }
+                if c == client && w == write && v == after && s.as_slice() == body.as_slice()
+        ),
+        Event::Answered {
+            client,
+            name,
+            reply,
+            at,
+        } => matches!(
+            b,
+            Event::Answered { client: c, name: o, reply: r, at: v }
+                if c == client && o == name && v == at && is_same_reply(r, reply)
+        ),
+        Event::Behind { client, needs, has } => matches!(
+            b,
+            Event::Behind { client: c, needs: n, has: v } if c == client && n == needs && v == has
+        ),
+        Event::Moved { client } => matches!(b, Event::Moved { client: c } if c == client),
+        Event::Cut { at } => matches!(b, Event::Cut { at: v } if v == at),
+        Event::Dropped { name } => matches!(b, Event::Dropped { name: o } if o == name),
+        Event::Conflicts { name, found } => {
+            matches!(b, Event::Conflicts { name: o, found: f } if o == name && is_same_found(f, found))
+        }
+        Event::State {
+            at,
+            cut,
+            floor,
+            precise,
+        } => matches!(
+            b,
+            Event::State { at: v, cut: c, floor: f, precise: p }
+                if v == at && c == cut && f == floor && p.as_slice() == precise.as_slice()
+        ),
         _ => false,
     }
 }
 
 fn is_same_reply(a: &Reply, b: &Reply) -> bool {
-    match (a, b) {
-        (Reply::Never, Reply::Never) => true,
-        (
-            Reply::Value { stamp, bytes },
-            Reply::Value {
-                stamp: other,
-                bytes: body,
-            },
-        ) => { stamp == other && bytes.as_slice() == body.as_slice() }
-        (Reply::Imprecise { untold }, Reply::Imprecise { untold: other }) => untold == other,
-        (Reply::Body { stamp }, Reply::Body { stamp: other }) => stamp == other,
-        (Reply::Gone { stamp }, Reply::Gone { stamp: other }) => stamp == other,
-        _ => false,
+    match a {
+        Reply::Never => matches!(b, Reply::Never),
+        Reply::Value { stamp, bytes } => {
+            matches!(b, Reply::Value { stamp: s, bytes: t } if s == stamp && t.as_slice() == bytes.as_slice())
+        }
+        Reply::Imprecise { untold } => matches!(b, Reply::Imprecise { untold: s } if s == untold),
+        Reply::Body { stamp } => matches!(b, Reply::Body { stamp: s } if s == stamp),
+        Reply::Gone { stamp } => matches!(b, Reply::Gone { stamp: s } if s == stamp),
     }
 }
 
 fn is_same_found(a: &Found, b: &Found) -> bool {
-    match (a, b) {
-        (Found::Pairs(pairs), Found::Pairs(others)) => pairs.as_slice() == others.as_slice(),
-        (Found::Imprecise { untold }, Found::Imprecise { untold: other }) => untold == other,
-        _ => false,
+    match a {
+        Found::Pairs(pairs) => matches!(b, Found::Pairs(p) if p.as_slice() == pairs.as_slice()),
+        Found::Imprecise { untold } => matches!(b, Found::Imprecise { untold: s } if s == untold),
     }
 }
 
@@ -166,51 +111,30 @@ fn is_same_message(a: &Msg, b: &Msg) -> bool {
 }
 
 fn is_same_kind(a: &Kind, b: &Kind) -> bool {
-    match (a, b) {
-        (
-            Kind::Precise { from, to, write },
-            Kind::Precise {
-                from: f,
-                to: t,
-                write: w,
-            },
-        ) => { from == f && to == t && write == w }
-        (
-            Kind::Imprecise { from, to, target },
-            Kind::Imprecise {
-                from: f,
-                to: t,
-                target: names,
-            },
-        ) => { from == f && to == t && is_same_set(target, names) }
-        (
-            Kind::Checkpoint {
-                to,
-                target,
-                floor,
-                rows,
-            },
-            Kind::Checkpoint {
-                to: t,
-                target: names,
-                floor: f,
-                rows: others,
-            },
-        ) => {
-            to == t
-                && floor == f
-                && is_same_set(target, names)
-                && are_same_rows(rows.as_slice(), others.as_slice())
+    match a {
+        Kind::Precise { from, to, write } => {
+            matches!(b, Kind::Precise { from: v, to: w, write: x } if v == from && w == to && x == write)
         }
-        (
-            Kind::Body { name, stamp, bytes },
-            Kind::Body {
-                name: o,
-                stamp: s,
-                bytes: body,
-            },
-        ) => { name == o && stamp == s && bytes.as_slice() == body.as_slice() }
-        _ => false,
+        Kind::Imprecise { from, to, target } => matches!(
+            b,
+            Kind::Imprecise { from: v, to: w, target: t }
+                if v == from && w == to && is_same_set(t, target)
+        ),
+        Kind::Checkpoint {
+            to,
+            target,
+            floor,
+            rows,
+        } => matches!(
+            b,
+            Kind::Checkpoint { to: w, target: t, floor: f, rows: r }
+                if w == to && f == floor && is_same_set(t, target) && are_same_rows(r.as_slice(), rows.as_slice())
+        ),
+        Kind::Body { name, stamp, bytes } => matches!(
+            b,
+            Kind::Body { name: o, stamp: s, bytes: t }
+                if o == name && s == stamp && t.as_slice() == bytes.as_slice()
+        ),
     }
 }
 
