@@ -16,10 +16,10 @@ use Rattle.pr_story.proofs.Clocks.{clock_grows}
 use Rattle.pr_story.proofs.Making.{join_clock}
 use Rattle.pr_story.proofs.Steps.{entry_at}
 
-raised_clock : (v : List ℕ) (p : Point) (n : ℕ) → n < 32 → clock_of (raised v p) n ≡ cond (nat_eq n p.node) (max (clock_of v n) p.clock) (clock_of v n)
+pub raised_clock : (v : List ℕ) (p : Point) (n : ℕ) → n < 32 → clock_of (raised v p) n ≡ cond (nat_eq n p.node) (max (clock_of v n) p.clock) (clock_of v n)
 raised_clock v p n lt = clock_of-vector_of (λ k. cond (nat_eq k p.node) (max (clock_of v k) p.clock) (clock_of v k)) n lt
 
-joined : (b : Bool) (v w : List ℕ) (n : ℕ) → n < 32 → clock_of (cond b (join_of v w) v) n ≡ cond b (max (clock_of v n) (clock_of w n)) (clock_of v n)
+pub joined : (b : Bool) (v w : List ℕ) (n : ℕ) → n < 32 → clock_of (cond b (join_of v w) v) n ≡ cond b (max (clock_of v n) (clock_of w n)) (clock_of v n)
 joined true v w n lt = join_clock v w n lt
 joined false v w n lt = refl
 

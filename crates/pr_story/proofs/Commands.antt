@@ -285,7 +285,7 @@ module _ (plan : Plan) (h : List NodeEntry) (valid : Valid plan h) (n t u ca cb 
 -- ---- nodes
 
 module _ (plan : Plan) (h : List NodeEntry) where
-  node_of : Command → ℕ
+  pub node_of : Command → ℕ
   node_of (ToWrite c o body gone) = client_node plan h c
   node_of (ToRead c o) = client_node plan h c
   node_of (ToMove c m) = m
@@ -308,7 +308,7 @@ module _ (plan : Plan) (h : List NodeEntry) where
   at_end : (n x s : ℕ) → n ≡ (plan.stream x).destination → x ≡ s → n ≡ (plan.stream s).destination
   at_end n x s p e = p ∙ ap (λ (z : ℕ). (plan.stream z).destination) e
 
-  node_is : (command : Command) (n : ℕ) (a : Event) → IsPlaced plan h n a → Gives command n a → n ≡ node_of command
+  pub node_is : (command : Command) (n : ℕ) (a : Event) → IsPlaced plan h n a → Gives command n a → n ≡ node_of command
   unfolding node_of
   node_is (ToWrite c o body gone) n (Wrote client x bytes after) p g = at_client n client c p g.0
   node_is (ToWrite c o body gone) n (Behind client needs has) p g = at_client n client c p g

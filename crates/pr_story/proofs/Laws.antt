@@ -64,7 +64,7 @@ facts_throughout plan (e ∷ h) v = (world_facts plan (e ∷ h) (valid_world pla
 
 module _ (sets : List (List Span)) (h : List NodeEntry) (f : World h) (m : ℕ) (st : Standing) where
   -- a name of the stream in a target is dark
-  target_dark : (end : List ℕ) (target : List Span) (o : List ℕ) → IsTarget m (journal h m) st.names st.position end target → IsName o → IsTrue (has st.names o) → IsTrue (has target o) → IsDarkBetween m (journal h m) st.position end o
+  pub target_dark : (end : List ℕ) (target : List Span) (o : List ℕ) → IsTarget m (journal h m) st.names st.position end target → IsName o → IsTrue (has st.names o) → IsTrue (has target o) → IsDarkBetween m (journal h m) st.position end o
   target_dark end target o t name mine i = elim t [
     | inl fine ↦ elim (fine.0.no_others o name i) [ inl dark ↦ dark | inr omitted ↦ let e : has st.names o ≡ false = omitted.0 in cc ]
     | inr coarse ↦ elim (coarse.1.no_others o name i) [ inl out ↦ cc | inr dark ↦ dark ]

@@ -37,3 +37,14 @@ pub mod InOrder
 pub mod Marking
 pub mod Snapshots
 pub mod Starts
+pub mod Places
+pub mod Reading
+pub mod Foreign
+pub mod Counts
+pub mod Settling
+pub mod SettlingTells
+pub mod Nameless
+pub mod InTime
+pub mod Remaining
+pub mod OneThread
+pub mod Phases

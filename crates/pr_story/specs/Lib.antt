@@ -16,3 +16,11 @@ pub mod Search
 pub mod Withheld
 pub mod Sending
 pub mod Marking
+pub mod Places
+pub mod Reading
+pub mod Counts
+pub mod Settling
+pub mod Remaining
+pub mod OneThread
+pub mod Phases
+pub mod Statements

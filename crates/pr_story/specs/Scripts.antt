@@ -183,7 +183,3 @@ IsOfScript order streams lines h = AreOfLines order streams (λ s. false) lines 
 -- it is that of a run of the script that came to an end at some place
 abbrev pub IsBegunOf : Order → List ℕ → List Line → List NodeEntry → Type 0
 IsBegunOf order streams lines h = AreBegun order streams (λ s. false) lines (reverse h)
-
--- what a whole run gives, a run that may be cut off gives too
-abbrev pub WholeIsBegun : Type 0
-WholeIsBegun = (order : Order) (streams : List ℕ) (lines : List Line) (h : List NodeEntry) → IsOfScript order streams lines h → IsBegunOf order streams lines h

@@ -6,9 +6,10 @@ ghost use Rattle.pr_story.specs.Lawful.{Valid};
 ghost use Rattle.pr_story.specs.Laws.{AnswersAlike, FactsThroughout, IsShort, MergesAreHonest, NeverBehind, NodesAnswerAlike, NoneGoesBack, OneMore, SentUseful};
 ghost use Rattle.pr_story.specs.Lines.{LinesDetermine};
 ghost use Rattle.pr_story.specs.Merging.{Merges};
-ghost use Rattle.pr_story.specs.Scripts.{WholeIsBegun};
+ghost use Rattle.pr_story.specs.Places.{SentHavePlaces};
+ghost use Rattle.pr_story.specs.Statements.{HonestKeepsClosed, JobsAreRuns, LessIsLeft, MarkedIsBegun, MarkedPhases, NamelessIsTold, NothingBegins, PhaseJobsMerge, ReadsAreSo, ScriptDetermines, SettlesSettle, SettlesTell, SpokenIsNamed, StaysInTime, WholeIsBegun};
 ghost use Rattle.pr_story.specs.Turns.{TargetsMeet};
-ghost use Rattle.std.specs.Prelude.{List};
+ghost use Rattle.std.specs.Prelude.{List, ℕ};
 
 /// At every place of a valid history each node's vector is causally closed, no node is told more of a writer than the
 /// writer, every message that was sent is honest, each write that a node covers is known to it or its name is dark,
@@ -92,4 +93,83 @@ pub fn few_invalidations_are_sent()
 /// A history that is a script's is also one of a run that may have been cut off.
 pub fn whole_runs_are_begun()
     ensures { WholeIsBegun }
+{}
+
+/// What each read says is so at its place: of values, of deletes, of bodies that are not held, of untold points, and
+/// of a node that trails its client.
+pub fn reads_are_so()
+    ensures { ReadsAreSo }
+{}
+
+/// A causally closed vector that holds the start of an honest message, whoever sent it, joined with its end is closed.
+pub fn honest_messages_keep_closed()
+    ensures { HonestKeepsClosed }
+{}
+
+/// Where all entries are of declared nodes, clients and streams, all their stamps and vectors name declared nodes.
+pub fn stamps_and_vectors_name_declared_nodes()
+    ensures { SpokenIsNamed }
+{}
+
+/// Each message that was sent stands at a place of its source's journal, and a stream's messages are numbered from 1.
+pub fn sent_messages_have_places()
+    ensures { (plan : Plan) (h : List NodeEntry) (s : ℕ) → Valid plan h → SentHavePlaces plan h s }
+{}
+
+/// From its attach on, while each of its messages is taken as it comes, a stream's position is at most its
+/// destination's vector, and no message of it leaves a gap.
+pub fn streams_stay_in_time()
+    ensures { (plan : Plan) (s : ℕ) → StaysInTime plan s }
+{}
+
+/// After a settle each attached stream has nothing to send, and its destination has at least its source's vector.
+pub fn settles_settle()
+    ensures { SettlesSettle }
+{}
+
+/// A set without names is told at each point that the vector covers.
+pub fn nameless_sets_are_told()
+    ensures { NamelessIsTold }
+{}
+
+/// Where in a settle a stream sent no checkpoint, and what it sent was lit for its source, the destination's sets are
+/// told at each point of the source's vector.
+pub fn settles_tell()
+    ensures { SettlesTell }
+{}
+
+/// What streams have left to send grows by writes and attaches alone, and falls with each message of theirs.
+pub fn less_is_left_to_send()
+    ensures { LessIsLeft }
+{}
+
+/// Nothing at all is the beginning of each line, of each job and of each script.
+pub fn nothing_begins_every_line()
+    ensures { NothingBegins }
+{}
+
+/// Where one thread runs it and no flow goes down for its wire, the script alone determines the history.
+pub fn script_determines_the_history()
+    ensures { ScriptDetermines }
+{}
+
+/// The jobs of a phase, each cut off anywhere, in any order that keeps that of each node and of each job, keep a
+/// history valid.
+pub fn phase_jobs_merge()
+    ensures { PhaseJobsMerge }
+{}
+
+/// One job's own entries, cut off anywhere, are a run of it, and it shares no stream and no client.
+pub fn jobs_are_runs()
+    ensures { JobsAreRuns }
+{}
+
+/// A phase of which all jobs are marked whole is a phase, and a marked one has begun.
+pub fn marked_phases_are_phases()
+    ensures { MarkedPhases }
+{}
+
+/// A run that ended in a phase of which some jobs are known to be whole is a run that ended at some place.
+pub fn marked_runs_are_begun()
+    ensures { MarkedIsBegun }
 {}

@@ -1,0 +1,126 @@
+-- What is promised of valid histories and of the histories of scripts. Each is the statement of a law.
+use Rattle.std.specs.Prelude.{ℕ, List, [], ◌∷◌, ◌++◌, ◌≡◌, ◌⊎◌, ◌≤◌, ◌<◌, Bool, true, Contains, All, reverse}
+use Rattle.pr_stamps.specs.Point.{Point}
+use Rattle.pr_vectors.specs.Vector.{Covers, Le, join_of}
+use Rattle.pr_sets.specs.Spans.{has, Within}
+use Rattle.pr_inval.specs.declared.kind.Kind.{Kind}
+use Rattle.pr_inval.specs.declared.msg.Msg.{Msg}
+use Rattle.pr_inval.specs.Points.{from_of, to_of}
+use Rattle.pr_story.specs.declared.event.Event.TheVariants.{Attached, Sent, Accepted}
+use Rattle.pr_story.specs.History.{Plan, NodeEntry, Sends, IsClosed, journal, current_vector}
+use Rattle.pr_story.specs.Told.{all_sets, IsTold}
+use Rattle.pr_story.specs.Messages.{IsHonest}
+use Rattle.pr_story.specs.Lawful.{Valid}
+use Rattle.pr_story.specs.Reading.{AllReadSo}
+use Rattle.pr_story.specs.Counts.{Counts, AllSpeak, AllName}
+use Rattle.pr_story.specs.Merging.{New, plain, of_node, of_job, IsNodeRun, IsJobRun, AreApart}
+use Rattle.pr_story.specs.Scripts.{Job, JobGives, JobBegins, Order, JobAfterJob, IsPhase, Line, LineBegins, AreBegun, IsSettle, IsOfScript, IsBegunOf, events_of}
+use Rattle.pr_story.specs.Settling.{IsSettled, IsInTime, AllSendLit, HasName, IsNameless}
+use Rattle.pr_story.specs.Remaining.{left_to_send, IsNoStart, SendsOn}
+use Rattle.pr_story.specs.OneThread.{IsUndisturbed}
+use Rattle.pr_story.specs.Phases.{AreApartJobs, IsApartJob, EachBegins, AreStanding, IsPhaseAs, IsBegunAs}
+
+-- ---- reads and messages
+
+-- each read says what is so at its place
+abbrev pub ReadsAreSo : Type 0
+ReadsAreSo = (plan : Plan) (h : List NodeEntry) → Valid plan h → AllReadSo plan h
+
+-- a closed vector that holds the start of an honest message, joined with its end, is closed; the history need not be valid
+abbrev pub HonestKeepsClosed : Type 0
+HonestKeepsClosed =
+    (h : List NodeEntry) (v : List ℕ) (k : Kind) → IsClosed h v → IsHonest h k → Le (from_of k) v → IsClosed h (join_of v (to_of k))
+
+-- where the entries speak of declared nodes, clients and streams, their stamps and vectors name declared nodes alone
+abbrev pub SpokenIsNamed : Type 0
+SpokenIsNamed = (plan : Plan) (k : Counts) (h : List NodeEntry) → Valid plan h → AllSpeak k h → AllName k.nodes h
+
+-- ---- settles
+
+-- a stream is in time once it is attached; each entry but a message of its own keeps it so, and so does such a message
+-- that is taken next; while it is in time, what it sends leaves no gap
+pub record StaysInTime (plan : Plan) (s : ℕ) : Type 0 where
+  pub attached : (h : List NodeEntry) (e : NodeEntry) (at : List ℕ) → Valid plan (e ∷ h) → e.entry.event ≡ Attached s at → IsInTime plan (e ∷ h) s
+  pub other : (h : List NodeEntry) (e : NodeEntry) → Valid plan (e ∷ h) → ((msg : Msg) → Sends e.entry.event msg → ¬ (msg.stream ≡ s))
+      → IsInTime plan h s → IsInTime plan (e ∷ h) s
+  pub taken : (h : List NodeEntry) (sent took : NodeEntry) (msg : Msg) (at : List ℕ) → Valid plan (took ∷ (sent ∷ h)) → sent.entry.event ≡ Sent msg
+      → took.entry.event ≡ Accepted msg at → IsInTime plan h s → IsInTime plan (took ∷ (sent ∷ h)) s
+  pub no_gap : (h : List NodeEntry) (e : NodeEntry) (msg : Msg) → Valid plan (e ∷ h) → e.entry.event ≡ Sent msg → msg.stream ≡ s
+      → IsInTime plan h s → Le (from_of msg.kind) (current_vector (journal h (plan.stream s).destination))
+
+-- after a settle of these streams each of them is settled; later has the settle's entries, the newest first
+abbrev pub SettlesSettle : Type 0
+SettlesSettle =
+    (plan : Plan) (h later : List NodeEntry) (streams : List ℕ) → Valid plan (later ++ h) → IsSettle streams (events_of (reverse later))
+    → (s : ℕ) → Contains streams s → IsSettled plan (later ++ h) s
+
+-- a set without names is told at each point that the vector covers
+abbrev pub NamelessIsTold : Type 0
+NamelessIsTold =
+    (plan : Plan) (h : List NodeEntry) (n : ℕ) (set : List ℕ → Bool) → Valid plan h → IsNameless set
+    → (p : Point) → Covers (current_vector (journal h n)) p → IsTold n (journal h n) set p
+
+-- where in a settle a stream sent no checkpoint, and at each of its invalidations all its names were lit for the source,
+-- each of the destination's sets that has names of the stream alone is told at every point of the source's vector
+abbrev pub SettlesTell : Type 0
+SettlesTell =
+    (plan : Plan) (h later : List NodeEntry) (streams : List ℕ) → Valid plan (later ++ h) → IsSettle streams (events_of (reverse later))
+    → (s : ℕ) → Contains streams s → AllSendLit plan h s later
+    → (set : List ℕ → Bool) → Contains (all_sets (plan.sets (plan.stream s).destination)) set
+    → Within set (has (plan.stream s).names) → HasName set ⊎ IsNameless set
+    → (p : Point) → Covers (current_vector (journal (later ++ h) (plan.stream s).source)) p
+    → IsTold (plan.stream s).destination (journal (later ++ h) (plan.stream s).destination) set p
+
+-- what is left to send grows by writes and attaches alone, and falls with each message of the streams: that of a turn, or
+-- a checkpoint where the stream is stale
+abbrev pub LessIsLeft : Type 0
+LessIsLeft =
+    (plan : Plan) (h : List NodeEntry) (e : NodeEntry) (streams : List ℕ) → Valid plan (e ∷ h) → IsNoStart e.entry.event
+    → (left_to_send (e ∷ h) streams ≤ left_to_send h streams)
+    × (SendsOn plan h streams e.entry.event → left_to_send (e ∷ h) streams < left_to_send h streams)
+
+-- ---- scripts
+
+-- a line of which nothing at all came to be has begun, and so have a job and the lines of a script
+pub record NothingBegins : Type 0 where
+  pub line : (order : Order) (attached : List ℕ) (line : Line) → LineBegins order attached line []
+  pub job : (job : Job) → JobBegins job []
+  pub lines : (order : Order) (streams : List ℕ) (attached : ℕ → Bool) (lines : List Line) → AreBegun order streams attached lines []
+
+-- what a whole run gives, a run that may be cut off gives too
+abbrev pub WholeIsBegun : Type 0
+WholeIsBegun = (order : Order) (streams : List ℕ) (lines : List Line) (h : List NodeEntry) → IsOfScript order streams lines h → IsBegunOf order streams lines h
+
+-- two valid histories of one script by one thread, of which no flow went down for its wire, are the same
+abbrev pub ScriptDetermines : Type 0
+ScriptDetermines =
+    (plan : Plan) (streams : List ℕ) (lines : List Line) (caller : ℕ) (h g : List NodeEntry) → Valid plan h → Valid plan g
+    → IsUndisturbed caller h → IsUndisturbed caller g → IsOfScript JobAfterJob streams lines h → IsOfScript JobAfterJob streams lines g → h ≡ g
+
+-- ---- phases
+
+-- jobs of a phase that are apart, in any order that keeps that of each node and of each job, keep a history valid
+abbrev pub PhaseJobsMerge : Type 0
+PhaseJobsMerge =
+    (plan : Plan) (h : List NodeEntry) (new : List New) (jobs : List Job) (streams clients : ℕ → ℕ) → Valid plan h
+    → AreApartJobs h streams clients jobs 0 → EachBegins jobs 0 new
+    → ((n : ℕ) → IsNodeRun plan h n (of_node new n)) → ((k : ℕ) → AreStanding plan h (of_job new k))
+    → Valid plan (plain new ++ h)
+
+-- one job's own entries, the oldest first, are a run of the job, and it is apart
+abbrev pub JobsAreRuns : Type 0
+JobsAreRuns =
+    (plan : Plan) (h : List NodeEntry) (streams clients : ℕ → ℕ) (k : ℕ) (job : Job) (own : List New) → IsApartJob h streams clients k job
+    → JobBegins job (plain own) → All (λ (x : New). x.job ≡ k) own → AreStanding plan h (reverse own)
+    → IsJobRun plan h (reverse own) × AreApart streams clients own
+
+-- a phase of which all jobs are marked whole is a phase, and any marked one has begun
+pub record MarkedPhases : Type 0 where
+  pub all : (order : Order) (jobs : List Job) (es : List NodeEntry) → IsPhaseAs (λ k. true) order jobs es → IsPhase JobGives order jobs es
+  pub of_all : (order : Order) (jobs : List Job) (es : List NodeEntry) → IsPhase JobGives order jobs es → IsPhaseAs (λ k. true) order jobs es
+  pub begun : (whole : ℕ → Bool) (order : Order) (jobs : List Job) (es : List NodeEntry) → IsPhaseAs whole order jobs es → IsPhase JobBegins order jobs es
+
+-- a run that ended in a phase with marked jobs is one that came to an end at some place
+abbrev pub MarkedIsBegun : Type 0
+MarkedIsBegun =
+    (whole : ℕ → Bool) (order : Order) (streams : List ℕ) (lines : List Line) (h : List NodeEntry) → IsBegunAs whole order streams lines h → IsBegunOf order streams lines h
