@@ -20,7 +20,7 @@ kept_more a b c p q = record {
 }
 
 kept_stepped : (a b : SessionMeaning) (e : Entry) → HasStepped a b e → IsKept a b
-kept_stepped a b e p = record { stream = p.stream; attached = p.attached; names = p.names; bodies = p.bodies }
+kept_stepped a b e p = record { stream = p.stream; attached = p.is_attached; names = p.after.names; bodies = p.after.bodies }
 
 kept_heard : (a b : SessionMeaning) (time : ℕ) → HasHeard a b time → IsKept a b
 kept_heard a b time p = record { stream = p.stream; attached = p.attached; names = p.names; bodies = p.bodies }

@@ -1,6 +1,5 @@
 -- What the calls on a side are given, and which entry each makes.
 use Rattle.std.specs.Prelude.{◌≡◌, ◌≤◌, ℕ, List, [], ◌∷◌, ◌++◌, Option, Some, None, Result, Ok, Err}
-use Rattle.pr_stamps.specs.Point.{Point}
 use Rattle.pr_inval.specs.declared.msg.Msg.{Msg}
 use Rattle.pr_inval.specs.declared.node_fault.NodeFault.{NodeFault}
 use Rattle.pr_inval.specs.declared.node_fault.NodeFault.TheVariants as faults
@@ -14,7 +13,8 @@ use Rattle.pr_story.specs.declared.entry.Entry.{Entry}
 use Rattle.pr_story.specs.declared.event.Event.{Event}
 use Rattle.pr_story.specs.declared.event.Event.TheVariants.{Accepted, Gapped, Down}
 use Rattle.pr_story.specs.Commands.{IsNoCheckpoint}
-use Rattle.pr_story.specs.Turns.{count_after, event_of, position_after, sent_after}
+use Rattle.pr_story.specs.Sessions.{HasGoneOn}
+use Rattle.pr_story.specs.Turns.{event_of}
 use Rattle.pr_wire.specs.Messages.{IsMessage}
 
 -- a call: a turn with the session before and after it, a message to accept, or a down with its cause and the session
@@ -37,15 +37,8 @@ abbrev pub entry_of : ℕ → ℕ → Event → Entry
 entry_of time caller event = record { time = time; caller = caller; event = event }
 
 -- the session after an entry that a call with it made
-pub record HasStepped (a b : SessionMeaning) (e : Entry) : Type 0 where
-  pub stream : b.stream ≡ a.stream
-  pub attached : b.attached ≡ a.attached
-  pub names : b.standing.names ≡ a.standing.names
-  pub bodies : b.standing.bodies ≡ a.standing.bodies
-  pub position : b.standing.position ≡ position_after e.event a.stream a.standing.position
-  pub number : b.standing.number ≡ count_after e.event a.stream a.standing.number
-  pub time : b.standing.time ≡ e.time
-  pub sent : (o : List ℕ) (t : Point) → b.standing.sent o t ≡ sent_after e.event a.stream o t (a.standing.sent o t)
+abbrev pub HasStepped : SessionMeaning → SessionMeaning → Entry → Type 0
+HasStepped a b e = HasGoneOn a b a.attached e
 
 -- what stays of a session whatever a flow does
 pub record IsKept (a b : SessionMeaning) : Type 0 where

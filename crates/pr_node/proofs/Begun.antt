@@ -15,9 +15,10 @@ use Rattle.pr_story.specs.History.{current_vector}
 use Rattle.pr_story.specs.Ranges.{IsMsg}
 use Rattle.pr_story.specs.Told.{IsStart}
 use Rattle.pr_story.specs.Turns.{IsSnapshot, is_body}
-use Rattle.pr_node.specs.Calls.{HasGoneOn, is_checkpoint}
 use Rattle.pr_node.proofs.Adding.{IsReady}
 use Rattle.pr_node.proofs.Going.{same_number}
+use Rattle.pr_story.specs.Sessions.{HasGoneOn}
+use Rattle.pr_story.specs.Commands.{IsCheckpoint}
 
 itself : (k : ℕ) → nat_eq k k ≡ true
 itself k = same_number k k refl
@@ -33,13 +34,13 @@ begun_heard a m b start time caller later begun heard = record {
     bodies = heard.bodies ∙ begun.bodies;
     position = heard.position ∙ begun.position ∙ sym (ap (λ (x : Bool). cond x start a.standing.position) (itself a.stream));
     number = heard.number ∙ begun.number;
-    hour = let e : m.standing.time ≡ a.standing.time = begun.time in let h : b.standing.time ≡ max m.standing.time time = heard.time in omega (arith, e, h, later);
+    time = let e : m.standing.time ≡ a.standing.time = begun.time in let h : b.standing.time ≡ max m.standing.time time = heard.time in omega (arith, e, h, later);
     sent = λ o t. heard.sent o t ∙ begun.sent o t ∙ sym (ap (λ (x : Bool). cond x false (a.standing.sent o t)) (itself a.stream));
   };
 }
 
 -- the session noted a checkpoint that was sent
-pub checkpoint_noted : (a b : SessionMeaning) (to : List ℕ) (time caller : ℕ) (msg : Msg) → IsTrue a.attached → HasSent a b to time → msg.stream ≡ a.stream → to_of msg.kind ≡ to → is_checkpoint msg.kind ≡ true
+pub checkpoint_noted : (a b : SessionMeaning) (to : List ℕ) (time caller : ℕ) (msg : Msg) → IsTrue a.attached → HasSent a b to time → msg.stream ≡ a.stream → to_of msg.kind ≡ to → IsCheckpoint msg.kind
     → HasGoneOn a b true (record { time = time; caller = caller; event = Sent msg })
 checkpoint_noted a b to time caller msg attached noted same ends is =
     let e : nat_eq msg.stream a.stream ≡ true = same_number msg.stream a.stream same in
@@ -51,22 +52,22 @@ checkpoint_noted a b to time caller msg attached noted same ends is =
         bodies = noted.bodies;
         position = noted.position ∙ ap (λ (v : List ℕ). join_of a.standing.position v) (sym ends) ∙ sym (ap (λ (x : Bool). cond x (join_of a.standing.position (to_of msg.kind)) a.standing.position) e);
         number = noted.number ∙ sym (ap (λ (x : Bool). cond x (a.standing.number + 1) a.standing.number) e);
-        hour = noted.time;
+        time = noted.time;
         sent = λ o t. noted.sent o t ∙ ap (λ (x : Bool). x || a.standing.sent o t) (sym (no_body (nat_eq msg.stream a.stream) msg.kind o t is));
       };
     }
   where
-    no_body : (c : Bool) (kind : Kind) (o : List ℕ) (t : Point) → is_checkpoint kind ≡ true → (c && is_body kind o t) ≡ false
+    no_body : (c : Bool) (kind : Kind) (o : List ℕ) (t : Point) → IsCheckpoint kind → (c && is_body kind o t) ≡ false
     no_body true (Checkpoint to target floor rows) o t is = refl
     no_body false (Checkpoint to target floor rows) o t is = refl
-    no_body c (Precise from to write) o t is = cc
-    no_body c (Imprecise from to target) o t is = cc
-    no_body c (Body name stamp bytes) o t is = cc
+    no_body c (Precise from to write) o t is = absurd is
+    no_body c (Imprecise from to target) o t is = absurd is
+    no_body c (Body name stamp bytes) o t is = absurd is
 
 -- ---- checkpoints
 
-pub snapshot_ends : (sets : List (List Span)) (n : ℕ) (j : List Entry) (names : List Span) (kind : Kind) → IsSnapshot sets n j names kind → (to_of kind ≡ current_vector j) × (is_checkpoint kind ≡ true)
-snapshot_ends sets n j names (Checkpoint to target floor rows) so = (so.0, refl)
+pub snapshot_ends : (sets : List (List Span)) (n : ℕ) (j : List Entry) (names : List Span) (kind : Kind) → IsSnapshot sets n j names kind → (to_of kind ≡ current_vector j) × IsCheckpoint kind
+snapshot_ends sets n j names (Checkpoint to target floor rows) so = (so.0, tt)
 snapshot_ends sets n j names (Precise from to write) so = absurd so
 snapshot_ends sets n j names (Imprecise from to target) so = absurd so
 snapshot_ends sets n j names (Body name stamp bytes) so = absurd so

@@ -20,9 +20,9 @@ use Rattle.pr_story.specs.Sending.{IsAhead}
 use Rattle.pr_story.specs.Turns.{is_body}
 use Rattle.pr_story.proofs.Basics.{clock_zero}
 use Rattle.pr_story.proofs.Sendings.{sends}
-use Rattle.pr_node.specs.Calls.{HasGoneOn}
 use Rattle.pr_node.specs.Sending.{IsNextBodyOf, IsNextKind}
 use Rattle.pr_node.specs.Ties.{IsLogOf}
+use Rattle.pr_story.specs.Sessions.{HasGoneOn}
 
 -- ---- turns
 
@@ -76,7 +76,7 @@ body_noted a b pos name bytes stamp time caller msg at range noted is same =
         position = noted.position ∙ sym (join_nothing a.standing.position (sym (ap (λ (v : List ℕ). length v) at) ∙ range.nodes))
             ∙ sym (ap (λ (x : Bool). cond x (join_of a.standing.position (to_of msg.kind)) a.standing.position) e ∙ ap (λ (x : Kind). join_of a.standing.position (to_of x)) is);
         number = noted.number ∙ sym (ap (λ (x : Bool). cond x (a.standing.number + 1) a.standing.number) e);
-        hour = noted.time;
+        time = noted.time;
         sent = λ o t. noted.sent o t ∙ sym (ap (λ (x : Bool). (x && is_body msg.kind o t) || a.standing.sent o t) e ∙ ap (λ (x : Kind). is_body x o t || a.standing.sent o t) is);
       };
     }

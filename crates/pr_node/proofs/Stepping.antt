@@ -11,10 +11,12 @@ use Rattle.pr_story.specs.declared.entry.Entry.{Entry}
 use Rattle.pr_story.specs.declared.event.Event.{Event}
 use Rattle.pr_story.specs.Lawful.{heard_time}
 use Rattle.pr_story.specs.Turns.{IsTurn, SendTurn, event_of}
-use Rattle.pr_node.specs.Calls.{HasGoneOn, IsAfter, IsStep, is_checkpoint}
+use Rattle.pr_node.specs.Calls.{IsStep}
 use Rattle.pr_node.specs.Quiet.{IsQuiet}
 use Rattle.pr_node.specs.Sending.{IsNextStep, IsStepInRange, IsStepOf}
 use Rattle.pr_node.proofs.Adding.{IsReady}
+use Rattle.pr_story.specs.Sessions.{HasGoneOn, IsAfter}
+use Rattle.pr_story.specs.Commands.{IsNoCheckpoint}
 
 -- a session whose room alone has changed
 pub step_at : (n : ℕ) (j : List Entry) (a b : SessionMeaning) (time : ℕ) (s : Step) → IsSameSession a b → IsNextStep n j b time s → IsNextStep n j a time s
@@ -54,11 +56,11 @@ step_quiet stream (step.Stale cut) = tt
 pub turn_quiet : (stream : ℕ) (s : Step) (event : Event) → event ≡ event_of stream s → IsQuiet event
 turn_quiet stream s event is = subst (λ (e : Event). IsQuiet e) (sym is) (step_quiet stream s)
 
-no_checkpoint : (n : ℕ) (j : List Entry) (st : Standing) (kind : Kind) → IsTurn n j st (SendTurn kind) → is_checkpoint kind ≡ false
-no_checkpoint n j st (Precise from to write) so = refl
-no_checkpoint n j st (Imprecise from to target) so = refl
+no_checkpoint : (n : ℕ) (j : List Entry) (st : Standing) (kind : Kind) → IsTurn n j st (SendTurn kind) → IsNoCheckpoint kind
+no_checkpoint n j st (Precise from to write) so = tt
+no_checkpoint n j st (Imprecise from to target) so = tt
 no_checkpoint n j st (Checkpoint to target floor rows) so = absurd so
-no_checkpoint n j st (Body name stamp bytes) so = refl
+no_checkpoint n j st (Body name stamp bytes) so = tt
 
 pub turn_is : (n : ℕ) (j : List Entry) (a : SessionMeaning) (time caller : ℕ) (s : Step) (event : Event) → event ≡ event_of a.stream s → IsNextStep n j a time s → IsStep a.stream s (record { time = time; caller = caller; event = event })
 turn_is n j a time caller (step.Sent msg) event is so = (is, so.0, no_checkpoint n j a.standing msg.kind so.3)

@@ -18,9 +18,9 @@ use Rattle.pr_story.specs.declared.cause.Cause.{Cause}
 use Rattle.pr_story.specs.declared.entry.Entry.{Entry}
 use Rattle.pr_story.specs.declared.event.Event.{Event}
 use Rattle.pr_story.specs.declared.event.Event.TheVariants.{Wrote, Attached, Sent, Idle, Stale, Accepted, Gapped, Missing, Down, Answered, Behind, Moved, State}
+use Rattle.pr_story.specs.Commands.{IsCheckpoint, IsNoCheckpoint}
 use Rattle.pr_story.specs.History.{current_clock, current_vector}
 use Rattle.pr_story.specs.Lawful.{IsOwnLawful, last_time}
-use Rattle.pr_story.specs.Turns.{position_after, count_after, sent_after}
 use Rattle.pr_node.specs.declared.answers.done.Done.{Done}
 use Rattle.pr_node.specs.declared.answers.done.Done.TheVariants as done
 use Rattle.pr_node.specs.declared.answers.seen.Seen.{Seen}
@@ -98,19 +98,15 @@ abbrev pub IsSeen : ℕ → List ℕ → Seen → Entry → Type 0
 IsSeen client name (seen.Reply reply) e = (at : List ℕ) × (e.event ≡ Answered client name reply at)
 IsSeen client name (seen.Behind has) e = (needs : List ℕ) × (e.event ≡ Behind client needs has)
 
-abbrev pub is_checkpoint : Kind → Bool
-is_checkpoint (Checkpoint to target floor rows) = true
-is_checkpoint _ = false
-
 -- a turn of the stream
 abbrev pub IsStep : ℕ → Step → Entry → Type 0
-IsStep stream (step.Sent msg) e = (e.event ≡ Sent msg) × (msg.stream ≡ stream) × (is_checkpoint msg.kind ≡ false)
+IsStep stream (step.Sent msg) e = (e.event ≡ Sent msg) × (msg.stream ≡ stream) × IsNoCheckpoint msg.kind
 IsStep stream step.Idle e = e.event ≡ Idle stream
 IsStep stream (step.Stale cut) e = e.event ≡ Stale stream cut
 
 -- the stream's checkpoint
 abbrev pub IsCheckpointSent : ℕ → Msg → Entry → Type 0
-IsCheckpointSent stream msg e = (e.event ≡ Sent msg) × (msg.stream ≡ stream) × (is_checkpoint msg.kind ≡ true)
+IsCheckpointSent stream msg e = (e.event ≡ Sent msg) × (msg.stream ≡ stream) × IsCheckpoint msg.kind
 
 -- the message was taken, or has a gap
 abbrev pub IsTaken : Msg → Taken → Entry → Type 0
@@ -120,23 +116,6 @@ IsTaken msg (taken.Gap needs has time) e = (e.event ≡ Gapped msg has) × (need
 abbrev pub IsStateEvent : Event → Type 0
 IsStateEvent (State at cut floor precise) = Unit {0}
 IsStateEvent _ = ⊥
-
--- ---- sessions
-
--- the stream stood as a, and stands as b after the entry
-pub record IsAfter (stream : ℕ) (e : Entry) (a b : Standing) : Type 0 where
-  pub names : b.names ≡ a.names
-  pub bodies : b.bodies ≡ a.bodies
-  pub position : b.position ≡ position_after e.event stream a.position
-  pub number : b.number ≡ count_after e.event stream a.number
-  pub hour : b.time ≡ e.time
-  pub sent : (o : List ℕ) (t : Point) → b.sent o t ≡ sent_after e.event stream o t (a.sent o t)
-
--- the stream's session was a, and is b after the entry
-pub record HasGoneOn (a b : SessionMeaning) (attached : Bool) (e : Entry) : Type 0 where
-  pub stream : b.stream ≡ a.stream
-  pub is_attached : b.attached ≡ attached
-  pub after : IsAfter a.stream e a.standing b.standing
 
 -- ---- streams at their destination
 

@@ -4,7 +4,7 @@ ghost use Rattle.pr_inval.specs.Standing.{IsSameSession};
 ghost use Rattle.pr_inval.specs.declared.msg.Msg.{Msg};
 ghost use Rattle.pr_inval.specs.declared.node_fault.NodeFault.TheVariants as faults;
 ghost use Rattle.pr_node.specs.Answering.{IsAnswerAt, reply_of};
-ghost use Rattle.pr_node.specs.Calls.{AddsAlone, AddsOfClient, AddsOfStream, HasGoneOn, IsAttachedAt, IsCheckpointSent, IsDone, IsDownFor, IsFault, IsMissed, IsMoveOf, IsSeen, IsStateEvent, IsStep, IsTaken, IsTimeWorn, IsWriteWorn};
+ghost use Rattle.pr_node.specs.Calls.{AddsAlone, AddsOfClient, AddsOfStream, IsAttachedAt, IsCheckpointSent, IsDone, IsDownFor, IsFault, IsMissed, IsMoveOf, IsSeen, IsStateEvent, IsStep, IsTaken, IsTimeWorn, IsWriteWorn};
 ghost use Rattle.pr_node.specs.Grammar.{IsStepSpelled};
 ghost use Rattle.pr_node.specs.Stored.{means};
 ghost use Rattle.pr_node.specs.Ties.{AreApart};
@@ -13,6 +13,7 @@ ghost use Rattle.pr_story.specs.declared.event.Event.TheVariants.{Conflicts, Cut
 ghost use Rattle.pr_vectors.specs.Vector.{IsVector};
 ghost use Rattle.pr_wire.specs.Messages.{IsMessage};
 ghost use Rattle.std.specs.Prelude.{◌≡◌, ◌≤◌, ◌<◌, [], true, false, Err, IfErr, IfOk, IsTrue, OnErr, OnOk, length, reverse};
+ghost use Rattle.pr_story.specs.Sessions.{HasGoneOn};
 
 use crate::answering::{answer, copy, found, replies};
 use crate::diary::Diary;

@@ -1,7 +1,6 @@
 // The turn of a stream at its source.
 ghost use Rattle.pr_inval.specs.Standing.{means};
 ghost use Rattle.pr_inval.specs.declared.kind.Kind.{Kind};
-ghost use Rattle.pr_node.specs.Calls.{HasGoneOn};
 ghost use Rattle.pr_node.specs.Sending.{IsKindOrNone, IsNextKind, IsNextStep, IsStepInRange, IsStepOf};
 ghost use Rattle.pr_node.specs.Ties.{IsTied};
 ghost use Rattle.pr_story.specs.Ranges.{IsKind, IsMsg};
@@ -10,6 +9,7 @@ ghost use Rattle.pr_story.specs.declared.entry.Entry.{Entry};
 ghost use Rattle.pr_story.specs.declared.event.Event.TheVariants.{Sent};
 ghost use Rattle.pr_vectors.specs.Vector.{Le};
 ghost use Rattle.std.specs.Prelude.{◌≡◌, ◌≤◌, ◌<◌, ◌+◌, ℕ, List, IfOk, IsTrue};
+ghost use Rattle.pr_story.specs.Sessions.{HasGoneOn};
 
 use crate::Stores;
 use crate::ahead::ahead;

@@ -6,6 +6,7 @@ pub mod Messages
 pub mod Turns
 pub mod Ranges
 pub mod Lawful
+pub mod Sessions
 pub mod Laws
 pub mod Merging
 pub mod Economy

@@ -3,12 +3,12 @@ use Rattle.pr_inval.specs.Standing.{means, SessionMeaning}
 use Rattle.pr_story.specs.declared.entry.Entry.{Entry}
 use Rattle.pr_story.specs.declared.event.Event.TheVariants.{Attached}
 use Rattle.std.specs.Prelude.{true}
-use Rattle.pr_node.specs.Calls.{HasGoneOn}
 use Rattle.pr_node.proofs.Adding.{stands, adds}
 use Rattle.pr_story.specs.Lawful.{last_time}
 use Rattle.pr_node.proofs.Begun.{attach_ready, begun_heard}
 use Rattle.pr_node.proofs.Quiet.{quiet_tied}
 use Rattle.pr_node.proofs.node.Node.attach.Goals as goal
+use Rattle.pr_story.specs.Sessions.{HasGoneOn}
 
 pub invariant_of-self-2 : goal.invariant_of-self-2
 invariant_of-self-2 c =

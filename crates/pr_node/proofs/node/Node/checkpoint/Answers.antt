@@ -6,13 +6,13 @@ use Rattle.pr_inval.specs.Standing.{means, SessionMeaning}
 use Rattle.pr_story.specs.declared.entry.Entry.{Entry}
 use Rattle.pr_story.specs.declared.event.Event.TheVariants.{Sent}
 use Rattle.pr_story.specs.Turns.{IsSnapshot}
-use Rattle.pr_node.specs.Calls.{is_checkpoint}
 use Rattle.pr_node.proofs.Adding.{IsReady, stands, adds}
 use Rattle.pr_node.proofs.Begun.{checkpoint_noted, checkpoint_ready, snapshot_ends}
 use Rattle.pr_node.proofs.Quiet.{quiet_tied}
 use Rattle.pr_story.specs.Lawful.{last_time}
 use Rattle.pr_node.proofs.Spelled.{message_spelled, snapshot_kind}
 use Rattle.pr_node.proofs.node.Node.checkpoint.Goals as goal
+use Rattle.pr_story.specs.Commands.{IsCheckpoint}
 
 pub invariant_of-self-2 : goal.invariant_of-self-2
 invariant_of-self-2 c =
@@ -38,7 +38,7 @@ returns-clause-ok c needs =
       checkpoint_noted a (means c.sent.new.self) c.vector.result c.in_ok-time.time c.args.caller c.in_ok-sent.sent c.requires c.sent.ensures
           (ap (λ (m : Msg). m.stream) c.in_ok-sent.ensures ∙ c.message-msg.ensures.stream)
           (ap (λ (m : Msg). to_of m.kind) c.in_ok-sent.ensures ∙ ends.0 ∙ sym (c.vector.ensures.value ∙ tied.gaps.vector))
-          (ap (λ (m : Msg). is_checkpoint m.kind) c.in_ok-sent.ensures ∙ ends.1),
+          (subst (λ (m : Msg). IsCheckpoint m.kind) (sym c.in_ok-sent.ensures) ends.1),
     ))
 
 pub returns-clause-grammar : goal.returns-clause-grammar
