@@ -30,7 +30,7 @@ use Rattle.pr_story.specs.Knowledge.{IsAnswer, IsNewest, IsGone, IsFound, IsCove
 use Rattle.pr_story.specs.Clients.{client_vector, seen_after}
 use Rattle.pr_story.specs.Turns.{position, position_after, standing, IsTurn, IsSnapshot, IsSnapshotRow, SendTurn}
 use Rattle.pr_story.specs.Lawful.{IsLawful, Valid}
-use Rattle.pr_story.specs.Counts.{Counts, AllSpeak, HasPrev, HasVector, HasWrite, HasMark, HasRow, HasPair, HasKind, HasReply, HasFound, NamesNodes}
+use Rattle.pr_story.specs.Counts.{Counts, IsDeclared, AreDeclared, AllNamed, HasEvent, HasPrev, HasVector, HasWrite, HasMark, HasRow, HasPair, HasKind, HasReply, HasFound}
 use Rattle.pr_story.proofs.Basics.{clock_zero, clock_at, clock_is, vector_clock}
 use Rattle.pr_story.proofs.World.{World, told_written}
 use Rattle.pr_story.proofs.Known.{known_told}
@@ -40,7 +40,7 @@ use Rattle.pr_story.proofs.Precise.{named_covered, set_has, marks_both}
 use Rattle.pr_story.proofs.Points.{covered_node}
 use Rattle.pr_vectors.proofs.Vectors.{length-vector_of}
 use Rattle.pr_story.proofs.Steps.{valid_world, entry_at}
-use Rattle.pr_story.specs.Statements.{SpokenIsNamed}
+use Rattle.pr_story.specs.Statements.{HistoriesName}
 
 all_of : {X : Type 0} (P : X → Type 0) (xs : List X) → ((x : X) → Contains xs x → P x) → All P xs
 all_of P xs p = λ k d lt. p (get_or xs k d) (Contains-get_or xs k d lt)
@@ -53,7 +53,7 @@ node_or a b = grind (arith, nat_tests)
 other_node : (a n w b nodes : ℕ) → ◌≡◌ {A = ℕ} a 0 → n < nodes → nodes ≤ w → ◌≡◌ {A = ℕ} (max a (cond (nat_eq n w) b 0)) 0
 other_node a n w b nodes z lt le = grind (arith, nat_tests)
 
-no_entries : (k : Counts) (h : List NodeEntry) (w v : ℕ) → AllSpeak k h → k.nodes ≤ w → ◌≡◌ {A = ℕ} (clock_at h w v) 0
+no_entries : (k : Counts) (h : List NodeEntry) (w v : ℕ) → AreDeclared k h → k.nodes ≤ w → ◌≡◌ {A = ℕ} (clock_at h w v) 0
 no_entries k [] w v a le = refl
 no_entries k (e ∷ h) w v a le = other_node (clock_at h w v) e.node w (clock_brought e.entry.event v) k.nodes (no_entries k h w v a.1 le) a.0.0 le
 
@@ -80,7 +80,7 @@ upto_past nodes j P v z g w lt le =
     let b : ◌≡◌ {A = ℕ} (current_clock j w) 0 = z w lt le in
     omega arith
 
-module _ (k : Counts) (h : List NodeEntry) (f : World h) (spoken : AllSpeak k h) where
+module _ (k : Counts) (h : List NodeEntry) (f : World h) (spoken : AreDeclared k h) where
   none_at : (n w : ℕ) → w < 32 → k.nodes ≤ w → ◌≡◌ {A = ℕ} (clock_at h n w) 0
   none_at n w lt le =
       let a : clock_at h n w ≤ clock_at h w w = f.own n w lt in
@@ -124,11 +124,11 @@ module _ (k : Counts) (h : List NodeEntry) (f : World h) (spoken : AllSpeak k h)
   prev_has n o None w = tt
   prev_has n o (Some p) w = named_has n o p w.0
 
-new_prev : (plan : Plan) (k : Counts) (h : List NodeEntry) (n time caller : ℕ) (event : Event) (x : WriteRec) (body dep : List ℕ) → World h → AllSpeak k h → IsLawful plan h (entry_at n time caller event) → Writes event x body dep → HasPrev k.nodes x.prev
+new_prev : (plan : Plan) (k : Counts) (h : List NodeEntry) (n time caller : ℕ) (event : Event) (x : WriteRec) (body dep : List ℕ) → World h → AreDeclared k h → IsLawful plan h (entry_at n time caller event) → Writes event x body dep → HasPrev k.nodes x.prev
 new_prev plan k h n time caller (Wrote client write bytes after) x body dep f a l w = subst (λ (y : WriteRec). HasPrev k.nodes y.prev) w.0 (prev_has k h f a n write.name write.prev l.may_come.5)
 new_prev plan k h n time caller _ x body dep f a l w = absurd w
 
-written_prev : (plan : Plan) (k : Counts) (h : List NodeEntry) → Valid plan h → AllSpeak k h → (x : WriteRec) (body dep : List ℕ) → WasWritten h x body dep → HasPrev k.nodes x.prev
+written_prev : (plan : Plan) (k : Counts) (h : List NodeEntry) → Valid plan h → AreDeclared k h → (x : WriteRec) (body dep : List ℕ) → WasWritten h x body dep → HasPrev k.nodes x.prev
 written_prev plan k [] v a x body dep w = absurd w
 written_prev plan k (e ∷ h) v a x body dep w = elim w [
   | inl now ↦ new_prev plan k h e.node e.entry.time e.entry.caller e.entry.event x body dep (valid_world plan h v.1) a.1 v.0 now
@@ -163,7 +163,7 @@ cond_past : (nodes : ℕ) (b : Bool) (v u : List ℕ) → Past nodes v → Past 
 cond_past nodes true v u p q = p
 cond_past nodes false v u p q = q
 
-module _ (plan : Plan) (k : Counts) (h : List NodeEntry) (valid : Valid plan h) (spoken : AllSpeak k h) (kept : Kept k.nodes h) where
+module _ (plan : Plan) (k : Counts) (h : List NodeEntry) (valid : Valid plan h) (spoken : AreDeclared k h) (kept : Kept k.nodes h) where
   f : World h
   f = valid_world plan h valid
 
@@ -197,8 +197,8 @@ module _ (plan : Plan) (k : Counts) (h : List NodeEntry) (valid : Valid plan h) 
   turn_has n s (Checkpoint to target floor rows) i t = absurd t
   turn_has n s (Body o stamp bytes) i t = named_has k h f spoken n o stamp t.3.0.1.0
 
-  mark_has : (n : ℕ) (names : List Span) (o : List ℕ) (mark : Mark) → IsPrecise n (journal h n) (set_of (plan.sets n) o) → IsMark (journal h n) o mark → HasMark k.nodes mark
-  mark_has n names o mark precise m =
+  mark_has : (n : ℕ) (o : List ℕ) (mark : Mark) → IsPrecise n (journal h n) (set_of (plan.sets n) o) → IsMark (journal h n) o mark → HasMark k.nodes mark
+  mark_has n o mark precise m =
       let c : IsCoveredMark h (current_vector (journal h n)) (floor_of (journal h n)) o mark = (marks_both h f n (set_of (plan.sets n) o) o (set_has (plan.sets n) o) precise mark).0 m in (
         subst (λ (p : Point). p.node < k.nodes) c.0.5 (written_has k h f spoken c.0.0 c.0.1 c.0.2 c.0.3),
         subst (λ (p : Option Point). HasPrev k.nodes p) c.0.6 (written_prev plan k h valid spoken c.0.0 c.0.1 c.0.2 c.0.3),
@@ -216,7 +216,7 @@ module _ (plan : Plan) (k : Counts) (h : List NodeEntry) (valid : Valid plan h) 
         let c : IsCoveredWrite h (current_vector (journal h n)) row.name row.newest = named_covered h f n row.name row.newest sr.newest.0 in
         let name : IsName row.name = subst (λ (q : List ℕ). IsName q) c.4 (f.is_own c.0 c.1 c.2 c.3).name in (
           named_has k h f spoken n row.name row.newest sr.newest.0,
-          all_of (HasMark k.nodes) row.marks (λ mark m. mark_has n names row.name mark (s.2.no_others row.name name sr.outside).1 ((sr.marks mark).0 m)),
+          all_of (HasMark k.nodes) row.marks (λ mark m. mark_has n row.name mark (s.2.no_others row.name name sr.outside).1 ((sr.marks mark).0 m)),
         )),
   )
 
@@ -263,23 +263,23 @@ module _ (plan : Plan) (k : Counts) (h : List NodeEntry) (valid : Valid plan h) 
   start_past : (n s : ℕ) (at : List ℕ) → IsStart (plan.sets n) n (journal h n) (plan.stream s).names at → Past k.nodes at
   start_past n s at i = upto_past k.nodes (journal h n) (λ p. (set : List ℕ → Bool) → Contains (all_sets (plan.sets n)) set → Meet set (has (plan.stream s).names) → IsTold n (journal h n) set p) at (none_now k h f spoken n) i
 
-  names_nodes : (n time caller : ℕ) (event : Event) → n < k.nodes → IsLawful plan h (entry_at n time caller event) → NamesNodes k.nodes event
-  names_nodes n time caller (Wrote client write body after) lt l = ((subst (λ (m : ℕ). m < k.nodes) (sym l.may_come.2) lt, prev_has k h f spoken n write.name write.prev l.may_come.5), whole k.nodes after (at_past n after l.may_come.1) l.in_range.3)
-  names_nodes n time caller (Attached s at) lt l = whole k.nodes at (start_past n s at l.may_come) l.in_range.1
-  names_nodes n time caller (Sent msg) lt l = sent_has n time caller (Sent msg) msg l refl
-  names_nodes n time caller (Idle s) lt l = tt
-  names_nodes n time caller (Stale s cut) lt l = whole k.nodes cut (subst (λ (u : List ℕ). Past k.nodes u) (sym l.may_come.0) (kept.cuts n)) l.in_range.1
-  names_nodes n time caller (Accepted msg at) lt l = (kept.sent msg l.cause, whole k.nodes at (accepted_past n msg at l.cause l.may_come.1) l.in_range.1)
-  names_nodes n time caller (Gapped msg at) lt l = (kept.sent msg l.cause, whole k.nodes at (at_past n at l.may_come.2) l.in_range.1)
-  names_nodes n time caller (Missing s number) lt l = tt
-  names_nodes n time caller (Down s cause) lt l = tt
-  names_nodes n time caller (Answered client o answer at) lt l = (reply_has n o answer l.may_come.0, whole k.nodes at (at_past n at l.may_come.1) l.in_range.3)
-  names_nodes n time caller (Behind client needs at) lt l = (whole k.nodes needs (subst (λ (u : List ℕ). Past k.nodes u) (sym l.may_come.0) (kept.seen client)) l.in_range.1, whole k.nodes at (at_past n at l.may_come.2) l.in_range.2)
-  names_nodes n time caller (Moved client) lt l = tt
-  names_nodes n time caller (Cut at) lt l = whole k.nodes at (at_past n at l.may_come) l.in_range
-  names_nodes n time caller (Dropped o) lt l = tt
-  names_nodes n time caller (Conflicts o found) lt l = found_has n o found l.may_come
-  names_nodes n time caller (State at cut floor precise) lt l = (
+  names_declared : (n time caller : ℕ) (event : Event) → n < k.nodes → IsDeclared k event → IsLawful plan h (entry_at n time caller event) → HasEvent k event
+  names_declared n time caller (Wrote client write body after) lt d l = (d, (subst (λ (m : ℕ). m < k.nodes) (sym l.may_come.2) lt, prev_has k h f spoken n write.name write.prev l.may_come.5), whole k.nodes after (at_past n after l.may_come.1) l.in_range.3)
+  names_declared n time caller (Attached s at) lt d l = (d, whole k.nodes at (start_past n s at l.may_come) l.in_range.1)
+  names_declared n time caller (Sent msg) lt d l = (d, sent_has n time caller (Sent msg) msg l refl)
+  names_declared n time caller (Idle s) lt d l = d
+  names_declared n time caller (Stale s cut) lt d l = (d, whole k.nodes cut (subst (λ (u : List ℕ). Past k.nodes u) (sym l.may_come.0) (kept.cuts n)) l.in_range.1)
+  names_declared n time caller (Accepted msg at) lt d l = ((d, kept.sent msg l.cause), whole k.nodes at (accepted_past n msg at l.cause l.may_come.1) l.in_range.1)
+  names_declared n time caller (Gapped msg at) lt d l = ((d, kept.sent msg l.cause), whole k.nodes at (at_past n at l.may_come.2) l.in_range.1)
+  names_declared n time caller (Missing s number) lt d l = d
+  names_declared n time caller (Down s cause) lt d l = d
+  names_declared n time caller (Answered client o answer at) lt d l = (d, reply_has n o answer l.may_come.0, whole k.nodes at (at_past n at l.may_come.1) l.in_range.3)
+  names_declared n time caller (Behind client needs at) lt d l = (d, whole k.nodes needs (subst (λ (u : List ℕ). Past k.nodes u) (sym l.may_come.0) (kept.seen client)) l.in_range.1, whole k.nodes at (at_past n at l.may_come.2) l.in_range.2)
+  names_declared n time caller (Moved client) lt d l = d
+  names_declared n time caller (Cut at) lt d l = whole k.nodes at (at_past n at l.may_come) l.in_range
+  names_declared n time caller (Dropped o) lt d l = tt
+  names_declared n time caller (Conflicts o found) lt d l = found_has n o found l.may_come
+  names_declared n time caller (State at cut floor precise) lt d l = (
     whole k.nodes at (at_past n at l.may_come.0) l.in_range.0,
     whole k.nodes cut (subst (λ (u : List ℕ). Past k.nodes u) (sym l.may_come.1) (kept.cuts n)) l.in_range.1,
     whole k.nodes floor (subst (λ (u : List ℕ). Past k.nodes u) (sym l.may_come.2) (kept.floors n)) l.in_range.2,
@@ -324,7 +324,7 @@ cuts_cond : (nodes : ℕ) (b : Bool) (e : Entry) (j : List Entry) → Past nodes
 cuts_cond nodes true e j p q = join_past nodes (cuts_of j) (cut_in e.event) p q
 cuts_cond nodes false e j p q = p
 
-all_kept : (plan : Plan) (k : Counts) (h : List NodeEntry) → Valid plan h → AllSpeak k h → Kept k.nodes h
+all_kept : (plan : Plan) (k : Counts) (h : List NodeEntry) → Valid plan h → AreDeclared k h → Kept k.nodes h
 all_kept plan k [] v a = record { positions = λ s. zero_past k.nodes; sent = λ msg w. absurd w; floors = λ n. zero_past k.nodes; cuts = λ n. zero_past k.nodes; seen = λ c. zero_past k.nodes }
 all_kept plan k (e ∷ h) v a =
     let old : Kept k.nodes h = all_kept plan k h v.1 a.1 in
@@ -336,6 +336,13 @@ all_kept plan k (e ∷ h) v a =
       seen = λ c. seen_more plan k h v.1 a.1 old e.node e.entry.time e.entry.caller e.entry.event c a.0.0 v.0;
     }
 
-pub spoken_is_named : SpokenIsNamed
-spoken_is_named plan k [] v a = tt
-spoken_is_named plan k (e ∷ h) v a = (names_nodes plan k h v.1 a.1 (all_kept plan k h v.1 a.1) e.node e.entry.time e.entry.caller e.entry.event a.0.0 v.0, spoken_is_named plan k h v.1 a.1)
+all_named : (plan : Plan) (k : Counts) (h : List NodeEntry) → Valid plan h → AreDeclared k h → AllNamed k h
+all_named plan k [] v a = tt
+all_named plan k (e ∷ h) v a = (
+  a.0.0,
+  names_declared plan k h v.1 a.1 (all_kept plan k h v.1 a.1) e.node e.entry.time e.entry.caller e.entry.event a.0.0 a.0.1 v.0,
+  all_named plan k h v.1 a.1,
+)
+
+pub histories_name : HistoriesName
+histories_name plan k h is = all_named plan k h is.valid is.declared

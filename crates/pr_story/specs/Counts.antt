@@ -1,10 +1,11 @@
--- Histories of so many declared nodes, clients and streams.
+-- Histories of declared nodes, clients and streams.
 use Rattle.std.specs.Prelude.{◌≡◌, ◌≤◌, ◌<◌, ℕ, List, [], ◌∷◌, All, Option, None, Some}
 use Rattle.pr_stamps.specs.Point.{Point}
 use Rattle.pr_stamps.specs.declared.mark.Mark.{Mark}
 use Rattle.pr_vectors.specs.Vector.{clock_of}
 use Rattle.pr_inval.specs.declared.kind.Kind.{Kind}
 use Rattle.pr_inval.specs.declared.kind.Kind.TheVariants.{Precise, Imprecise, Checkpoint, Body}
+use Rattle.pr_inval.specs.declared.msg.Msg.{Msg}
 use Rattle.pr_inval.specs.declared.row.Row.{Row}
 use Rattle.pr_inval.specs.declared.write_rec.WriteRec.{WriteRec}
 use Rattle.pr_story.specs.declared.event.Event.{Event}
@@ -13,7 +14,8 @@ use Rattle.pr_story.specs.declared.reply.Reply.{Reply}
 use Rattle.pr_story.specs.declared.reply.Reply.TheVariants as replies
 use Rattle.pr_story.specs.declared.found.Found.{Found}
 use Rattle.pr_story.specs.declared.found.Found.TheVariants as founds
-use Rattle.pr_story.specs.History.{NodeEntry}
+use Rattle.pr_story.specs.History.{Plan, NodeEntry}
+use Rattle.pr_story.specs.Lawful.{Valid}
 
 -- how many are declared
 pub record Counts : Type 0 where
@@ -21,33 +23,38 @@ pub record Counts : Type 0 where
   pub clients : ℕ
   pub streams : ℕ
 
--- ---- what an event speaks of by itself
+-- ---- whose the events are
 
 -- the client or the stream of the event is declared
-abbrev pub SpeaksOf : Counts → Event → Type 0
-SpeaksOf k (Wrote client write body after) = client < k.clients
-SpeaksOf k (Attached stream at) = stream < k.streams
-SpeaksOf k (Sent msg) = msg.stream < k.streams
-SpeaksOf k (Idle stream) = stream < k.streams
-SpeaksOf k (Stale stream cut) = stream < k.streams
-SpeaksOf k (Accepted msg at) = msg.stream < k.streams
-SpeaksOf k (Gapped msg has) = msg.stream < k.streams
-SpeaksOf k (Missing stream number) = stream < k.streams
-SpeaksOf k (Down stream cause) = stream < k.streams
-SpeaksOf k (Answered client name answer at) = client < k.clients
-SpeaksOf k (Behind client needs has) = client < k.clients
-SpeaksOf k (Moved client) = client < k.clients
-SpeaksOf k (Cut at) = Unit {0}
-SpeaksOf k (Dropped name) = Unit {0}
-SpeaksOf k (Conflicts name found) = Unit {0}
-SpeaksOf k (State at cut floor precise) = Unit {0}
+abbrev pub IsDeclared : Counts → Event → Type 0
+IsDeclared k (Wrote client write body after) = client < k.clients
+IsDeclared k (Attached stream at) = stream < k.streams
+IsDeclared k (Sent msg) = msg.stream < k.streams
+IsDeclared k (Idle stream) = stream < k.streams
+IsDeclared k (Stale stream cut) = stream < k.streams
+IsDeclared k (Accepted msg at) = msg.stream < k.streams
+IsDeclared k (Gapped msg has) = msg.stream < k.streams
+IsDeclared k (Missing stream number) = stream < k.streams
+IsDeclared k (Down stream cause) = stream < k.streams
+IsDeclared k (Answered client name answer at) = client < k.clients
+IsDeclared k (Behind client needs has) = client < k.clients
+IsDeclared k (Moved client) = client < k.clients
+IsDeclared k (Cut at) = Unit {0}
+IsDeclared k (Dropped name) = Unit {0}
+IsDeclared k (Conflicts name found) = Unit {0}
+IsDeclared k (State at cut floor precise) = Unit {0}
 
 -- each entry is at a declared node, and its client or stream is declared
-abbrev pub AllSpeak : Counts → List NodeEntry → Type 0
-AllSpeak k [] = Unit {0}
-AllSpeak k (e ∷ h) = ((e.node < k.nodes) × SpeaksOf k e.entry.event) × AllSpeak k h
+abbrev pub AreDeclared : Counts → List NodeEntry → Type 0
+AreDeclared k [] = Unit {0}
+AreDeclared k (e ∷ h) = ((e.node < k.nodes) × IsDeclared k e.entry.event) × AreDeclared k h
 
--- ---- what its stamps and vectors name
+-- a history under this plan, of which so many are declared: it is valid, and of declared nodes, clients and streams alone
+pub record IsHistory (plan : Plan) (k : Counts) (h : List NodeEntry) : Type 0 where
+  pub valid : Valid plan h
+  pub declared : AreDeclared k h
+
+-- ---- what their stamps and vectors name
 
 module _ (nodes : ℕ) where
   abbrev pub HasStamp : Point → Type 0
@@ -90,25 +97,30 @@ module _ (nodes : ℕ) where
   HasFound (founds.Pairs pairs) = All HasPair pairs
   HasFound (founds.Imprecise untold) = HasStamp untold
 
-  -- the event's stamps and vectors name declared nodes alone
-  abbrev pub NamesNodes : Event → Type 0
-  NamesNodes (Wrote client write body after) = HasWrite write × HasVector after
-  NamesNodes (Attached stream at) = HasVector at
-  NamesNodes (Sent msg) = HasKind msg.kind
-  NamesNodes (Idle stream) = Unit {0}
-  NamesNodes (Stale stream cut) = HasVector cut
-  NamesNodes (Accepted msg at) = HasKind msg.kind × HasVector at
-  NamesNodes (Gapped msg has) = HasKind msg.kind × HasVector has
-  NamesNodes (Missing stream number) = Unit {0}
-  NamesNodes (Down stream cause) = Unit {0}
-  NamesNodes (Answered client name reply at) = HasReply reply × HasVector at
-  NamesNodes (Behind client needs has) = HasVector needs × HasVector has
-  NamesNodes (Moved client) = Unit {0}
-  NamesNodes (Cut at) = HasVector at
-  NamesNodes (Dropped name) = Unit {0}
-  NamesNodes (Conflicts name found) = HasFound found
-  NamesNodes (State at cut floor precise) = HasVector at × HasVector cut × HasVector floor × All HasVector precise
+-- the event is of a declared client or stream, and its stamps and vectors name declared nodes alone
+module _ (k : Counts) where
+  abbrev pub HasMsg : Msg → Type 0
+  HasMsg msg = (msg.stream < k.streams) × HasKind k.nodes msg.kind
 
-abbrev pub AllName : ℕ → List NodeEntry → Type 0
-AllName nodes [] = Unit {0}
-AllName nodes (e ∷ h) = NamesNodes nodes e.entry.event × AllName nodes h
+  abbrev pub HasEvent : Event → Type 0
+  HasEvent (Wrote client write body after) = (client < k.clients) × HasWrite k.nodes write × HasVector k.nodes after
+  HasEvent (Attached stream at) = (stream < k.streams) × HasVector k.nodes at
+  HasEvent (Sent msg) = HasMsg msg
+  HasEvent (Idle stream) = stream < k.streams
+  HasEvent (Stale stream cut) = (stream < k.streams) × HasVector k.nodes cut
+  HasEvent (Accepted msg at) = HasMsg msg × HasVector k.nodes at
+  HasEvent (Gapped msg has) = HasMsg msg × HasVector k.nodes has
+  HasEvent (Missing stream number) = stream < k.streams
+  HasEvent (Down stream cause) = stream < k.streams
+  HasEvent (Answered client name reply at) = (client < k.clients) × HasReply k.nodes reply × HasVector k.nodes at
+  HasEvent (Behind client needs has) = (client < k.clients) × HasVector k.nodes needs × HasVector k.nodes has
+  HasEvent (Moved client) = client < k.clients
+  HasEvent (Cut at) = HasVector k.nodes at
+  HasEvent (Dropped name) = Unit {0}
+  HasEvent (Conflicts name found) = HasFound k.nodes found
+  HasEvent (State at cut floor precise) = HasVector k.nodes at × HasVector k.nodes cut × HasVector k.nodes floor × All (HasVector k.nodes) precise
+
+  -- each entry is at a declared node, and names what is declared
+  abbrev pub AllNamed : List NodeEntry → Type 0
+  AllNamed [] = Unit {0}
+  AllNamed (e ∷ h) = (e.node < k.nodes) × HasEvent e.entry.event × AllNamed h

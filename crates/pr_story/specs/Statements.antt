@@ -12,7 +12,7 @@ use Rattle.pr_story.specs.Told.{all_sets, IsTold}
 use Rattle.pr_story.specs.Messages.{IsHonest}
 use Rattle.pr_story.specs.Lawful.{Valid}
 use Rattle.pr_story.specs.Reading.{AllReadSo}
-use Rattle.pr_story.specs.Counts.{Counts, AllSpeak, AllName}
+use Rattle.pr_story.specs.Counts.{Counts, IsHistory, AllNamed}
 use Rattle.pr_story.specs.Merging.{New, plain, of_node, of_job, IsNodeRun, IsJobRun, AreApart}
 use Rattle.pr_story.specs.Scripts.{Job, JobGives, JobBegins, Order, JobAfterJob, IsPhase, Line, LineBegins, AreBegun, IsSettle, IsOfScript, IsBegunOf, events_of}
 use Rattle.pr_story.specs.Settling.{IsSettled, IsInTime, AllSendLit, HasName, IsNameless}
@@ -31,9 +31,9 @@ abbrev pub HonestKeepsClosed : Type 0
 HonestKeepsClosed =
     (h : List NodeEntry) (v : List ℕ) (k : Kind) → IsClosed h v → IsHonest h k → Le (from_of k) v → IsClosed h (join_of v (to_of k))
 
--- where the entries speak of declared nodes, clients and streams, their stamps and vectors name declared nodes alone
-abbrev pub SpokenIsNamed : Type 0
-SpokenIsNamed = (plan : Plan) (k : Counts) (h : List NodeEntry) → Valid plan h → AllSpeak k h → AllName k.nodes h
+-- all that a history names is declared, in its stamps and vectors too
+abbrev pub HistoriesName : Type 0
+HistoriesName = (plan : Plan) (k : Counts) (h : List NodeEntry) → IsHistory plan k h → AllNamed k h
 
 -- ---- settles
 

@@ -7,7 +7,7 @@ ghost use Rattle.pr_story.specs.Laws.{AnswersAlike, FactsThroughout, IsShort, Me
 ghost use Rattle.pr_story.specs.Lines.{LinesDetermine};
 ghost use Rattle.pr_story.specs.Merging.{Merges};
 ghost use Rattle.pr_story.specs.Places.{SentHavePlaces};
-ghost use Rattle.pr_story.specs.Statements.{HonestKeepsClosed, JobsAreRuns, LessIsLeft, MarkedIsBegun, MarkedPhases, NamelessIsTold, NothingBegins, PhaseJobsMerge, ReadsAreSo, ScriptDetermines, SettlesSettle, SettlesTell, SpokenIsNamed, StaysInTime, WholeIsBegun};
+ghost use Rattle.pr_story.specs.Statements.{HonestKeepsClosed, JobsAreRuns, LessIsLeft, MarkedIsBegun, MarkedPhases, NamelessIsTold, NothingBegins, PhaseJobsMerge, ReadsAreSo, ScriptDetermines, SettlesSettle, SettlesTell, HistoriesName, StaysInTime, WholeIsBegun};
 ghost use Rattle.pr_story.specs.Turns.{TargetsMeet};
 ghost use Rattle.std.specs.Prelude.{List, ℕ};
 
@@ -106,9 +106,9 @@ pub fn honest_messages_keep_closed()
     ensures { HonestKeepsClosed }
 {}
 
-/// Where all entries are of declared nodes, clients and streams, all their stamps and vectors name declared nodes.
-pub fn stamps_and_vectors_name_declared_nodes()
-    ensures { SpokenIsNamed }
+/// All that a history of declared nodes, clients and streams names is declared, in its stamps and vectors too.
+pub fn histories_name_what_is_declared()
+    ensures { HistoriesName }
 {}
 
 /// Each message that was sent stands at a place of its source's journal, and a stream's messages are numbered from 1.

@@ -13,8 +13,10 @@ use Rattle.pr_story.proofs.Steps.{entry_at}
 use Rattle.pr_script.specs.Labels.{AreLabels}
 use Rattle.pr_script.specs.Printing.{label_text as label}
 use Rattle.pr_text.specs.Lines.{fields_of, line_text, sentence, word_of}
-use Rattle.pr_text.specs.Numbers.{Has, HasEvent}
-use Rattle.pr_text.specs.Transcripts.{AllDeclared, LinesTell, lines_text, plan_of}
+use Rattle.pr_story.specs.Counts.{AllNamed, HasEvent}
+use Rattle.pr_story.proofs.Counts.{histories_name}
+use Rattle.pr_text.specs.Numbers.{Has, counts_of}
+use Rattle.pr_text.specs.Transcripts.{LinesTell, lines_text, plan_of}
 use Rattle.pr_script.specs.declared.kind.Kind.TheVariants as kinds
 use Rattle.pr_text.proofs.Cut.{Lacks}
 use Rattle.pr_text.proofs.Items.{nothing_here}
@@ -92,7 +94,7 @@ module _ (ds : List Decl) (a : AreLabels ds) (plan : Plan) where
   no_body h n t c (Wrote client write body after) l = l.may_come.6
   no_body h n t c e l = tt
 
-  told : (h : List NodeEntry) (e : NodeEntry) → IsLawful plan h e → Has ds kinds.Node e.node → HasEvent ds e.entry.event → IsTold ds e.node e.entry.event
+  told : (h : List NodeEntry) (e : NodeEntry) → IsLawful plan h e → Has ds kinds.Node e.node → HasEvent (counts_of ds) e.entry.event → IsTold ds e.node e.entry.event
   told h e l n k = record {
     node = n;
     range = l.in_range;
@@ -114,7 +116,7 @@ module _ (ds : List Decl) (a : AreLabels ds) (plan : Plan) where
   line_lacks : (e : NodeEntry) → IsTold ds e.node e.entry.event → Lacks 10 (sentence ds e.node e.entry.event)
   line_lacks e t = sentence_lacks (word_of e.entry.event) (fields_of ds e.node e.entry.event) (word_plain e.entry.event) (event_closed ds a e.node e.entry.event t)
 
-  said_lack : (h : List NodeEntry) → Valid plan h → AllDeclared ds h → AllLack (said h)
+  said_lack : (h : List NodeEntry) → Valid plan h → AllNamed (counts_of ds) h → AllLack (said h)
   unfolding said
   said_lack [] v d = tt
   said_lack (e ∷ h) v d = lack_more (said h) (sentence ds e.node e.entry.event) (said_lack h v.1 d.2) (line_lacks e (told h e v.0 d.0 d.1))
@@ -123,7 +125,7 @@ module _ (ds : List Decl) (a : AreLabels ds) (plan : Plan) where
   no_last [] l e = nothing_here l [] e
   no_last (m ∷ ls) l e = nothing_here m (ls ++ l ∷ []) e
 
-  have_same : (h g : List NodeEntry) → Valid plan h → Valid plan g → AllDeclared ds h → AllDeclared ds g → said h ≡ said g
+  have_same : (h g : List NodeEntry) → Valid plan h → Valid plan g → AllNamed (counts_of ds) h → AllNamed (counts_of ds) g → said h ≡ said g
       → HaveSameLines h g × ((c : ℕ) → client_node plan h c ≡ client_node plan g c)
   unfolding said
   have_same [] [] v w d k e = (tt, λ c. refl)
@@ -142,7 +144,9 @@ module _ (ds : List Decl) (a : AreLabels ds) (plan : Plan) where
       ((node, say, rest.0), λ c. moved_same x.node y.node (client_node plan h c) (client_node plan g c) c x.entry.event y.entry.event o say node (rest.1 c))
 
 pub lines_tell : LinesTell
-lines_tell ds h g a v w d k e =
+lines_tell ds h g a v w e =
     let plan = plan_of ds in
-    let same = lines_same (said ds a plan h) (said ds a plan g) (said_lack ds a plan h v d) (said_lack ds a plan g w k) (sym (text_said ds a plan h) ∙ e ∙ text_said ds a plan g) in
-    lines_determine plan h g v w (have_same ds a plan h g v w d k same).0
+    let d = histories_name plan (counts_of ds) h v in
+    let k = histories_name plan (counts_of ds) g w in
+    let same = lines_same (said ds a plan h) (said ds a plan g) (said_lack ds a plan h v.valid d) (said_lack ds a plan g w.valid k) (sym (text_said ds a plan h) ∙ e ∙ text_said ds a plan g) in
+    lines_determine plan h g v.valid w.valid (have_same ds a plan h g v.valid w.valid d k same).0

@@ -19,7 +19,8 @@ use Rattle.pr_story.specs.declared.found.Found.{Found}
 use Rattle.pr_story.specs.declared.found.Found.TheVariants as founds
 use Rattle.pr_script.specs.Labels.{AreLabels}
 use Rattle.pr_text.specs.Lines.{found_fields, kind_fields, reply_fields, span_fields, stamp_fields}
-use Rattle.pr_text.specs.Numbers.{HasFound, HasKind, HasMark, HasPair, HasPrev, HasReply, HasRow, HasStamp, HasVector, HasWrite}
+use Rattle.pr_text.specs.Numbers.{nodes_of}
+use Rattle.pr_story.specs.Counts.{HasFound, HasKind, HasMark, HasPair, HasPrev, HasReply, HasRow, HasStamp, HasVector, HasWrite}
 use Rattle.pr_text.specs.Texts.{prev_text, stamp_text, vector_text}
 use Rattle.pr_text.proofs.Cut.{is_plain, heads_same}
 use Rattle.pr_text.proofs.Items.{nothing_here, nothing_there}
@@ -81,48 +82,48 @@ all_both P Q R f (x ∷ xs) p q = All-cons R x xs (f x (All-head P x xs p) (All-
 module _ (ds : List Decl) (a : AreLabels ds) where
   -- ---- what the ranges and the numbers give
 
-  pub prev_is : (p : Option Point) → IsStampOrNone p → HasPrev ds p → IsPrev ds p
+  pub prev_is : (p : Option Point) → IsStampOrNone p → HasPrev (nodes_of ds) p → IsPrev ds p
   prev_is None s h = tt
   prev_is (Some p) s h = (s, h)
 
   abbrev MarkRange : Mark → Type 0
   MarkRange m = IsStamp m.stamp × IsStampOrNone m.prev
 
-  mark_in : (m : Mark) → MarkRange m → HasMark ds m → IsMarkIn ds a m
+  mark_in : (m : Mark) → MarkRange m → HasMark (nodes_of ds) m → IsMarkIn ds a m
   mark_in m r h = ((r.0, h.0), prev_is m.prev r.1 h.1)
 
-  row_in : (r : Row) → IsRow r → HasRow ds r → IsRowIn ds a r
-  row_in r i h = (i.0, (i.1, h.0), all_both MarkRange (HasMark ds) (IsMarkIn ds a) mark_in r.marks i.2 h.1)
+  row_in : (r : Row) → IsRow r → HasRow (nodes_of ds) r → IsRowIn ds a r
+  row_in r i h = (i.0, (i.1, h.0), all_both MarkRange (HasMark (nodes_of ds)) (IsMarkIn ds a) mark_in r.marks i.2 h.1)
 
-  rows_in : (rows : List Row) → All IsRow rows → All (HasRow ds) rows → All (IsRowIn ds a) rows
-  rows_in rows i h = all_both IsRow (HasRow ds) (IsRowIn ds a) row_in rows i h
+  rows_in : (rows : List Row) → All IsRow rows → All (HasRow (nodes_of ds)) rows → All (IsRowIn ds a) rows
+  rows_in rows i h = all_both IsRow (HasRow (nodes_of ds)) (IsRowIn ds a) row_in rows i h
 
-  pairs_in : (ps : List (Point × Point)) → All (λ (p : Point × Point). IsStamp p.0 × IsStamp p.1) ps → All (λ (p : Point × Point). HasPair ds p) ps → All (IsPairIn ds a) ps
-  pairs_in ps i h = all_both (λ (p : Point × Point). IsStamp p.0 × IsStamp p.1) (λ (p : Point × Point). HasPair ds p) (IsPairIn ds a) (λ p r k. ((r.0, k.0), (r.1, k.1))) ps i h
+  pairs_in : (ps : List (Point × Point)) → All (λ (p : Point × Point). IsStamp p.0 × IsStamp p.1) ps → All (λ (p : Point × Point). HasPair (nodes_of ds) p) ps → All (IsPairIn ds a) ps
+  pairs_in ps i h = all_both (λ (p : Point × Point). IsStamp p.0 × IsStamp p.1) (λ (p : Point × Point). HasPair (nodes_of ds) p) (IsPairIn ds a) (λ p r k. ((r.0, k.0), (r.1, k.1))) ps i h
 
   -- ---- closed fields
 
-  pub stamp_closed : (p : Point) → IsStamp p → HasStamp ds p → Closed (stamp_text ds p)
+  pub stamp_closed : (p : Point) → IsStamp p → HasStamp (nodes_of ds) p → Closed (stamp_text ds p)
   stamp_closed p s h = inl (stamp_in ds a is_plain takes_plain p (s, h))
 
-  pub vector_closed : (v : List ℕ) → IsVector v → HasVector ds v → Closed (vector_text ds v)
+  pub vector_closed : (v : List ℕ) → IsVector v → HasVector (nodes_of ds) v → Closed (vector_text ds v)
   vector_closed v i h = inl (vector_plain ds a v (i, h))
 
   pub name_closed : (n : List ℕ) → IsName n → Closed n
   name_closed n i = inl (name_bytes is_plain n i allowed_plain)
 
-  pub write_closed : (w : WriteRec) → IsWrite w → HasWrite ds w → AllClosed (stamp_fields ds w)
+  pub write_closed : (w : WriteRec) → IsWrite w → HasWrite (nodes_of ds) w → AllClosed (stamp_fields ds w)
   write_closed w i h =
       (stamp_closed w.stamp i.1 h.0, (word (codes "over") refl, (inl (prev_in ds a is_plain takes_plain w.prev (prev_is w.prev i.2 h.1)), tt)))
 
-  span_closed : (from to : List ℕ) → IsVector from → IsVector to → HasVector ds from → HasVector ds to → AllClosed (span_fields ds from to)
+  span_closed : (from to : List ℕ) → IsVector from → IsVector to → HasVector (nodes_of ds) from → HasVector (nodes_of ds) to → AllClosed (span_fields ds from to)
   span_closed from to i j h k = (word (codes "from") refl, (vector_closed from i h, (word (codes "to") refl, (vector_closed to j k, tt))))
 
   kind_word : (g : Bool) → Closed (cond g (codes "gone") (codes "precise"))
   kind_word true = word (codes "gone") refl
   kind_word false = word (codes "precise") refl
 
-  pub kind_closed : (k : Kind) → IsKind k → HasKind ds k → AllClosed (kind_fields ds k)
+  pub kind_closed : (k : Kind) → IsKind k → HasKind (nodes_of ds) k → AllClosed (kind_fields ds k)
   kind_closed (Precise from to write) i h =
       (kind_word write.gone, (name_closed write.name i.2.0, closed_append (stamp_fields ds write) (span_fields ds from to) (write_closed write i.2 h.2) (span_closed from to i.0 i.1 h.0 h.1)))
   kind_closed (Imprecise from to target) i h = (word (codes "imprecise") refl, (inl (set_plain target i.2), span_closed from to i.0 i.1 h.0 h.1))
@@ -141,23 +142,23 @@ module _ (ds : List Decl) (a : AreLabels ds) where
   )
   kind_closed (Body name stamp bytes) i h = (word (codes "body") refl, (name_closed name i.0, (stamp_closed stamp i.1 h, (inr (is_quoted bytes), tt))))
 
-  pub reply_closed : (r : Reply) → IsReply r → HasReply ds r → AllClosed (reply_fields ds r)
+  pub reply_closed : (r : Reply) → IsReply r → HasReply (nodes_of ds) r → AllClosed (reply_fields ds r)
   reply_closed replies.Never i h = (word (codes "never") refl, tt)
   reply_closed (replies.Value stamp bytes) i h = (word (codes "value") refl, (stamp_closed stamp i.0 h, (inr (is_quoted bytes), tt)))
   reply_closed (replies.Imprecise untold) i h = (word (codes "imprecise") refl, (stamp_closed untold i h, tt))
   reply_closed (replies.Body stamp) i h = (word (codes "body") refl, (stamp_closed stamp i h, tt))
   reply_closed (replies.Gone stamp) i h = (word (codes "gone") refl, (stamp_closed stamp i h, tt))
 
-  pub found_closed : (f : Found) → IsFinding f → HasFound ds f → AllClosed (found_fields ds f)
+  pub found_closed : (f : Found) → IsFinding f → HasFound (nodes_of ds) f → AllClosed (found_fields ds f)
   found_closed (founds.Pairs pairs) i h = (inl (pairs_plain ds a pairs (pairs_in pairs i h)), tt)
   found_closed (founds.Imprecise untold) i h = (word (codes "imprecise") refl, (stamp_closed untold i h, tt))
 
   -- ---- the same fields
 
-  pub same_vector : (u v : List ℕ) → IsVector u → HasVector ds u → IsVector v → HasVector ds v → vector_text ds u ≡ vector_text ds v → u ≡ v
+  pub same_vector : (u v : List ℕ) → IsVector u → HasVector (nodes_of ds) u → IsVector v → HasVector (nodes_of ds) v → vector_text ds u ≡ vector_text ds v → u ≡ v
   same_vector u v i h j k e = vector_same ds a u v (i, h) (j, k) e
 
-  pub same_stamp : (p q : Point) → IsStamp p → HasStamp ds p → IsStamp q → HasStamp ds q → stamp_text ds p ≡ stamp_text ds q → p ≡ q
+  pub same_stamp : (p q : Point) → IsStamp p → HasStamp (nodes_of ds) p → IsStamp q → HasStamp (nodes_of ds) q → stamp_text ds p ≡ stamp_text ds q → p ≡ q
   same_stamp p q i h j k e = one_stamp ds a p q (i, h) (j, k) e
 
   pub write_of : (x y : WriteRec) → x.name ≡ y.name → x.stamp ≡ y.stamp → x.prev ≡ y.prev → x.gone ≡ y.gone → x ≡ y
@@ -168,7 +169,7 @@ module _ (ds : List Decl) (a : AreLabels ds) where
       ∙ ap (λ (k : Bool). let r : WriteRec = record { name = y.name; stamp = y.stamp; prev = y.prev; gone = k } in r) g
 
   -- the name, the stamp and the one before it
-  pub write_same : (x y : WriteRec) → IsWrite x → HasWrite ds x → IsWrite y → HasWrite ds y → x.gone ≡ y.gone → x.name ≡ y.name
+  pub write_same : (x y : WriteRec) → IsWrite x → HasWrite (nodes_of ds) x → IsWrite y → HasWrite (nodes_of ds) y → x.gone ≡ y.gone → x.name ≡ y.name
       → stamp_text ds x.stamp ≡ stamp_text ds y.stamp → prev_text ds x.prev ≡ prev_text ds y.prev → x ≡ y
   write_same x y i h j k g n s p =
       write_of x y n (same_stamp x.stamp y.stamp i.1 h.0 j.1 k.0 s) (prev_same ds a x.prev y.prev (prev_is x.prev i.2 h.1) (prev_is y.prev j.2 k.1) p) g
@@ -186,7 +187,7 @@ module _ (ds : List Decl) (a : AreLabels ds) where
   head_byte : (fs gs : List (List ℕ)) → fs ≡ gs → first_byte (first fs) ≡ first_byte (first gs)
   head_byte fs gs e = ap (λ l. first_byte (first l)) e
 
-  pub kind_same : (k m : Kind) → IsKind k → HasKind ds k → IsKind m → HasKind ds m → kind_fields ds k ≡ kind_fields ds m → k ≡ m
+  pub kind_same : (k m : Kind) → IsKind k → HasKind (nodes_of ds) k → IsKind m → HasKind (nodes_of ds) m → kind_fields ds k ≡ kind_fields ds m → k ≡ m
   kind_same (Precise f t w) (Precise g u x) i h j l e =
       let fs = kind_fields ds (Precise f t w) in
       let gs = kind_fields ds (Precise g u x) in
@@ -228,7 +229,7 @@ module _ (ds : List Decl) (a : AreLabels ds) where
   kind_same k m i h j l e = let b = head_byte (kind_fields ds k) (kind_fields ds m) e in absurd (omega (arith, b))
 
   -- what stands behind an answer is the vector
-  pub reply_same : (r s : Reply) (t u : List (List ℕ)) → IsReply r → HasReply ds r → IsReply s → HasReply ds s → reply_fields ds r ++ t ≡ reply_fields ds s ++ u → (r ≡ s) × (t ≡ u)
+  pub reply_same : (r s : Reply) (t u : List (List ℕ)) → IsReply r → HasReply (nodes_of ds) r → IsReply s → HasReply (nodes_of ds) s → reply_fields ds r ++ t ≡ reply_fields ds s ++ u → (r ≡ s) × (t ≡ u)
   reply_same replies.Never replies.Never t u i h j l e = (refl, ap later e)
   reply_same (replies.Value p b) (replies.Value q c) t u i h j l e =
       let fs = reply_fields ds (replies.Value p b) ++ t in
@@ -244,7 +245,7 @@ module _ (ds : List Decl) (a : AreLabels ds) where
       (ap (λ (k : Point). replies.Gone k) (same_stamp p q i h j l (at_1 (reply_fields ds (replies.Gone p) ++ t) (reply_fields ds (replies.Gone q) ++ u) e)), ap (λ k. later (later k)) e)
   reply_same r s t u i h j l e = let b = head_byte (reply_fields ds r ++ t) (reply_fields ds s ++ u) e in absurd (omega (arith, b))
 
-  pub found_same : (f g : Found) → IsFinding f → HasFound ds f → IsFinding g → HasFound ds g → found_fields ds f ≡ found_fields ds g → f ≡ g
+  pub found_same : (f g : Found) → IsFinding f → HasFound (nodes_of ds) f → IsFinding g → HasFound (nodes_of ds) g → found_fields ds f ≡ found_fields ds g → f ≡ g
   found_same (founds.Pairs p) (founds.Pairs q) i h j l e =
       ap (λ (k : List (Point × Point)). founds.Pairs k) (pairs_same ds a p q (pairs_in p i h) (pairs_in q j l) (at_0 (found_fields ds (founds.Pairs p)) (found_fields ds (founds.Pairs q)) e))
   found_same (founds.Imprecise p) (founds.Imprecise q) i h j l e =

@@ -23,7 +23,8 @@ use Rattle.pr_story.specs.declared.reply.Reply.{Reply}
 use Rattle.pr_script.specs.Labels.{AreLabels}
 use Rattle.pr_script.specs.Printing.{label_text as label}
 use Rattle.pr_text.specs.Lines.{body_fields, cause_text, fields_of, reply_fields, stamp_fields, word_of}
-use Rattle.pr_text.specs.Numbers.{Has, HasEvent, HasKind, HasVector}
+use Rattle.pr_text.specs.Numbers.{Has, counts_of, nodes_of}
+use Rattle.pr_story.specs.Counts.{HasEvent, HasKind, HasVector}
 use Rattle.pr_text.specs.Texts.{vector_text}
 use Rattle.pr_script.specs.declared.kind.Kind.TheVariants as kinds
 use Rattle.pr_script.specs.declared.kind.Kind.{Kind as What}
@@ -100,7 +101,7 @@ HasNoBody e = Unit {0}
 pub record IsTold (ds : List Decl) (n : ℕ) (e : Event) : Type 0 where
   pub node : Has ds kinds.Node n
   pub range : IsInRange e
-  pub numbers : HasEvent ds e
+  pub numbers : HasEvent (counts_of ds) e
   pub body : HasNoBody e
 
 -- ---- closed fields
@@ -144,7 +145,7 @@ module _ (ds : List Decl) (a : AreLabels ds) where
   body_closed true body = tt
   body_closed false body = (inr (is_quoted body), tt)
 
-  at_closed : (w : List ℕ) (v : List ℕ) → Closed w → IsVector v → HasVector ds v → AllClosed (w ∷ vector_text ds v ∷ [])
+  at_closed : (w : List ℕ) (v : List ℕ) → Closed w → IsVector v → HasVector (nodes_of ds) v → AllClosed (w ∷ vector_text ds v ∷ [])
   at_closed w v c i h = (c, (vector_closed ds a v i h, tt))
 
   cause_closed : (c : Cause) → Closed (cause_text c)
@@ -152,18 +153,18 @@ module _ (ds : List Decl) (a : AreLabels ds) where
   cause_closed causes.Ended = word (codes "ended") refl
   cause_closed causes.Gap = word (codes "gap") refl
 
-  zero_in : HasVector ds zero_vector
+  zero_in : HasVector (nodes_of ds) zero_vector
   zero_in n l = clock_zero n
 
-  from_closed : (k : Kind) → IsKind k → HasKind ds k → Closed (vector_text ds (from_of k))
+  from_closed : (k : Kind) → IsKind k → HasKind (nodes_of ds) k → Closed (vector_text ds (from_of k))
   from_closed (Precise from to write) i h = vector_closed ds a from i.0 h.0
   from_closed (Imprecise from to target) i h = vector_closed ds a from i.0 h.0
   from_closed (Checkpoint to target floor rows) i h = vector_closed ds a zero_vector zero_is zero_in
   from_closed (Body name stamp bytes) i h = vector_closed ds a zero_vector zero_is zero_in
 
-  vectors_closed : (vs : List (List ℕ)) → All IsVector vs → All (HasVector ds) vs → AllClosed (map (vector_text ds) vs)
+  vectors_closed : (vs : List (List ℕ)) → All IsVector vs → All (HasVector (nodes_of ds)) vs → AllClosed (map (vector_text ds) vs)
   vectors_closed [] i h = tt
-  vectors_closed (v ∷ vs) i h = (vector_closed ds a v (All-head IsVector v vs i) (All-head (HasVector ds) v vs h), vectors_closed vs (All-tail IsVector v vs i) (All-tail (HasVector ds) v vs h))
+  vectors_closed (v ∷ vs) i h = (vector_closed ds a v (All-head IsVector v vs i) (All-head (HasVector (nodes_of ds)) v vs h), vectors_closed vs (All-tail IsVector v vs i) (All-tail (HasVector (nodes_of ds)) v vs h))
 
   pub event_closed : (n : ℕ) (e : Event) → IsTold ds n e → AllClosed (fields_of ds n e)
   event_closed n (Wrote client write body after) t = (
@@ -246,11 +247,11 @@ module _ (ds : List Decl) (a : AreLabels ds) where
   cause_same causes.Gap causes.Failed e = other_word 103 102 (codes "ap") (codes "ailed") e (λ k. omega (arith, k))
   cause_same causes.Gap causes.Ended e = other_word 103 101 (codes "ap") (codes "nded") e (λ k. omega (arith, k))
 
-  vectors_same : (us vs : List (List ℕ)) → All IsVector us → All (HasVector ds) us → All IsVector vs → All (HasVector ds) vs → map (vector_text ds) us ≡ map (vector_text ds) vs → us ≡ vs
+  vectors_same : (us vs : List (List ℕ)) → All IsVector us → All (HasVector (nodes_of ds)) us → All IsVector vs → All (HasVector (nodes_of ds)) vs → map (vector_text ds) us ≡ map (vector_text ds) vs → us ≡ vs
   vectors_same us vs i h j k e =
-      map_same (vector_text ds) (λ v. IsVector v × HasVector ds v) (λ u v p q f. same_vector ds a u v p.0 p.1 q.0 q.1 f) us vs
-      (all_both IsVector (HasVector ds) (λ v. IsVector v × HasVector ds v) (λ v p q. (p, q)) us i h)
-      (all_both IsVector (HasVector ds) (λ v. IsVector v × HasVector ds v) (λ v p q. (p, q)) vs j k) e
+      map_same (vector_text ds) (λ v. IsVector v × HasVector (nodes_of ds) v) (λ u v p q f. same_vector ds a u v p.0 p.1 q.0 q.1 f) us vs
+      (all_both IsVector (HasVector (nodes_of ds)) (λ v. IsVector v × HasVector (nodes_of ds) v) (λ v p q. (p, q)) us i h)
+      (all_both IsVector (HasVector (nodes_of ds)) (λ v. IsVector v × HasVector (nodes_of ds) v) (λ v p q. (p, q)) vs j k) e
 
   -- a write's fields behind its client and its name
   abbrev behind_write : Bool → List ℕ → WriteRec → List ℕ → List (List ℕ)

@@ -4,12 +4,12 @@ use Rattle.pr_names.specs.Span.{Span}
 use Rattle.pr_script.specs.declared.decl.Decl.{Decl}
 use Rattle.pr_script.specs.declared.decl.Decl.TheVariants as decls
 use Rattle.pr_story.specs.History.{NodeEntry, Plan, Stream}
-use Rattle.pr_story.specs.Lawful.{Valid}
+use Rattle.pr_story.specs.Counts.{IsHistory}
 use Rattle.pr_story.specs.Lines.{without_callers}
 use Rattle.pr_script.specs.declared.kind.Kind.TheVariants as kinds
 use Rattle.pr_script.specs.Labels.{AreLabels, is_kind as is_of}
 use Rattle.pr_text.specs.Lines.{line_text}
-use Rattle.pr_text.specs.Numbers.{Has, HasEvent}
+use Rattle.pr_text.specs.Numbers.{counts_of}
 
 -- ---- what is declared
 
@@ -43,13 +43,8 @@ abbrev pub lines_text : List Decl → List NodeEntry → List ℕ
 lines_text ds [] = []
 lines_text ds (e ∷ h) = lines_text ds h ++ line_text ds e.node e.entry.event
 
--- each entry is at a declared node and names what is declared
-abbrev pub AllDeclared : List Decl → List NodeEntry → Type 0
-AllDeclared ds [] = Unit {0}
-AllDeclared ds (e ∷ h) = Has ds kinds.Node e.node × HasEvent ds e.entry.event × AllDeclared ds h
-
--- two valid histories of one script's declarations with the same lines are the same but for the callers' numbers
+-- two histories of one script's declarations with the same lines are the same but for the callers' numbers
 abbrev pub LinesTell : Type 0
 LinesTell =
-    (ds : List Decl) (h g : List NodeEntry) → AreLabels ds → Valid (plan_of ds) h → Valid (plan_of ds) g → AllDeclared ds h → AllDeclared ds g
+    (ds : List Decl) (h g : List NodeEntry) → AreLabels ds → IsHistory (plan_of ds) (counts_of ds) h → IsHistory (plan_of ds) (counts_of ds) g
     → lines_text ds h ≡ lines_text ds g → without_callers h ≡ without_callers g

@@ -1,7 +1,7 @@
 // What holds of all transcripts.
 ghost use Rattle.pr_text.specs.Transcripts.{LinesTell};
 
-/// Two valid histories of one script's declarations that have the same lines are the same but for the callers' numbers.
+/// Two histories of one script's declarations that have the same lines are the same but for the callers' numbers.
 pub fn lines_tell_the_history()
     ensures { LinesTell }
 {}

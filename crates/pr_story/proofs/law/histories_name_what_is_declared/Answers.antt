@@ -1,5 +1,5 @@
-use Rattle.pr_story.proofs.Counts.{spoken_is_named}
-use Rattle.pr_story.proofs.law.stamps_and_vectors_name_declared_nodes.Goals as goal
+use Rattle.pr_story.proofs.Counts.{histories_name}
+use Rattle.pr_story.proofs.law.histories_name_what_is_declared.Goals as goal
 
 pub returns : goal.returns
-returns c = spoken_is_named
+returns c = histories_name
