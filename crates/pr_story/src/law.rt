@@ -1,14 +1,9 @@
 // What holds of every valid history. Each law is the contract of a function that does nothing.
-ghost use Rattle.pr_story.specs.Commands.{CommandsDetermine, OneTurn};
-ghost use Rattle.pr_story.specs.Economy.{FewInvalidations};
 ghost use Rattle.pr_story.specs.History.{NodeEntry, Plan};
 ghost use Rattle.pr_story.specs.Lawful.{Valid};
-ghost use Rattle.pr_story.specs.Laws.{AnswersAlike, FactsThroughout, IsShort, MergesAreHonest, NeverBehind, NodesAnswerAlike, NoneGoesBack, OneMore, SentUseful};
-ghost use Rattle.pr_story.specs.Lines.{LinesDetermine};
-ghost use Rattle.pr_story.specs.Merging.{Merges};
+ghost use Rattle.pr_story.specs.Laws.{AnswersAlike, FactsThroughout, IsShort, NoneGoesBack, SentUseful};
 ghost use Rattle.pr_story.specs.Places.{SentHavePlaces};
-ghost use Rattle.pr_story.specs.Statements.{HonestKeepsClosed, JobsAreRuns, LessIsLeft, MarkedIsBegun, MarkedPhases, NamelessIsTold, NothingBegins, PhaseJobsMerge, ReadsAreSo, ScriptDetermines, SettlesSettle, SettlesTell, HistoriesName, StaysInTime, WholeIsBegun};
-ghost use Rattle.pr_story.specs.Turns.{TargetsMeet};
+ghost use Rattle.pr_story.specs.Statements.{HonestKeepsClosed, JobsAreRuns, LessIsLeft, MarkedIsBegun, MarkedPhases, NamelessIsTold, NothingBegins, PhaseJobsMerge, ReadsAreSo, ScriptDetermines, SettlesSettle, SettlesTell, HistoriesName, StaysInTime, WholeIsBegun, MergesAreHonest, NeverBehind, NodesAnswerAlike, OneMore, CommandsDetermine, OneTurn, FewInvalidations, LinesDetermine, Merges, TargetsMeet};
 ghost use Rattle.std.specs.Prelude.{List, ℕ};
 
 /// At every place of a valid history each node's vector is causally closed, no node is told more of a writer than the
@@ -79,9 +74,9 @@ pub fn lines_determine_the_history()
     ensures { LinesDetermine }
 {}
 
-/// What two honest imprecise invalidations merge into is honest.
+/// What two honest imprecise invalidations merge into is honest, whether the history is valid or not.
 pub fn merged_messages_are_honest()
-    ensures { (plan : Plan) (h : List NodeEntry) → Valid plan h → MergesAreHonest plan h }
+    ensures { MergesAreHonest }
 {}
 
 /// While its source hears nothing new and it is not attached anew, a stream sends at most twice as many invalidations
