@@ -2,8 +2,10 @@
 ghost use Rattle.pr_story.specs.History.{NodeEntry, Plan};
 ghost use Rattle.pr_story.specs.Lawful.{Valid};
 ghost use Rattle.pr_story.specs.Laws.{AnswersAlike, FactsThroughout, IsShort, NoneGoesBack, SentUseful};
-ghost use Rattle.pr_story.specs.Places.{SentHavePlaces};
+ghost use Rattle.pr_story.specs.Places.{EntriesHavePlaces, SentHavePlaces};
 ghost use Rattle.pr_story.specs.Statements.{HonestKeepsClosed, JobsAreRuns, LessIsLeft, MarkedIsBegun, MarkedPhases, NamelessIsTold, NothingBegins, PhaseJobsMerge, ReadsAreSo, ScriptDetermines, SettlesSettle, SettlesTell, HistoriesName, StaysInTime, WholeIsBegun, MergesAreHonest, NeverBehind, NodesAnswerAlike, OneMore, CommandsDetermine, OneTurn, FewInvalidations, LinesDetermine, Merges, TargetsMeet};
+ghost use Rattle.pr_story.specs.Counts.{IsHistory};
+ghost use Rattle.pr_story.specs.Worked.{read_again, two_declared, two_nodes};
 ghost use Rattle.std.specs.Prelude.{List, ℕ};
 
 /// At every place of a valid history each node's vector is causally closed, no node is told more of a writer than the
@@ -111,6 +113,11 @@ pub fn sent_messages_have_places()
     ensures { (plan : Plan) (h : List NodeEntry) (s : ℕ) → Valid plan h → SentHavePlaces plan h s }
 {}
 
+/// The k-th entry of a history stands at the k-th of its places, in the journal of its node.
+pub fn entries_have_places()
+    ensures { (h : List NodeEntry) → EntriesHavePlaces h }
+{}
+
 /// From its attach on, while each of its messages is taken as it comes, a stream's position is at most its
 /// destination's vector, and no message of it leaves a gap.
 pub fn streams_stay_in_time()
@@ -167,4 +174,10 @@ pub fn marked_phases_are_phases()
 /// A run that ended in a phase of which some jobs are known to be whole is a run that ended at some place.
 pub fn marked_runs_are_begun()
     ensures { MarkedIsBegun }
+{}
+
+/// There are histories: one in which a write and its message reach a second node, whose client then moves,
+/// deletes, and comes back after a cut and the checkpoint that it makes needed.
+pub fn worked_histories_are_valid()
+    ensures { IsHistory two_nodes two_declared read_again }
 {}
