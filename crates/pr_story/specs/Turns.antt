@@ -155,26 +155,45 @@ pub data Turn : Type 0 where
   IdleTurn : Turn
   SendTurn : Kind → Turn
 
+-- the position holds all that the source's cut covers
+abbrev pub HoldsCut : List Entry → Standing → Type 0
+HoldsCut j session = Le (cuts_of j) session.position
+
+-- it holds all that the source's vector covers
+abbrev pub HoldsVector : List Entry → Standing → Type 0
+HoldsVector j session = Le (current_vector j) session.position
+
+-- no write is to be sent, and the message ends at the vector
+abbrev pub EndsAtVector : List Entry → Standing → List ℕ → Type 0
+EndsAtVector j session to =
+    ((x : WriteRec) → ¬ IsWriteToSend j session.names session.position x) × (to ≡ join_of session.position (current_vector j))
+
+-- it ends just before the next write, and a name is withheld on the way there
+abbrev pub EndsBeforeNext : ℕ → List Entry → Standing → List ℕ → Type 0
+EndsBeforeNext n j session to =
+    (t : WriteRec) × IsNextWrite j session.names session.position t × (to ≡ join_of session.position (below_of (current_vector j) t.stamp))
+    × ((o : List ℕ) × IsName o × IsWithheld n j session.names session.position to o)
+
+-- no name is withheld on the way to just before this stamp
+abbrev pub WithholdsNone : ℕ → List Entry → Standing → Point → Type 0
+WithholdsNone n j session s =
+    (o : List ℕ) → IsName o → ¬ IsWithheld n j session.names session.position (join_of session.position (below_of (current_vector j) s)) o
+
 -- the turn at node n of a stream that stands so
 abbrev pub IsTurn : ℕ → List Entry → Standing → Turn → Type 0
-IsTurn n j session (StaleTurn cut) = (cut ≡ cuts_of j) × ¬ Le (cuts_of j) session.position
+IsTurn n j session (StaleTurn cut) = (cut ≡ cuts_of j) × ¬ HoldsCut j session
 IsTurn n j session IdleTurn =
-    Le (cuts_of j) session.position × Le (current_vector j) session.position
+    HoldsCut j session × HoldsVector j session
     × (IsTrue session.bodies → (o : List ℕ) (t : Point) (bytes : List ℕ) → ¬ IsBodyToSend j session o t bytes)
 IsTurn n j session (SendTurn (Body o t bytes)) =
-    Le (cuts_of j) session.position × Le (current_vector j) session.position
-    × IsTrue session.bodies × IsNextBody j session o t bytes
+    HoldsCut j session × HoldsVector j session × IsTrue session.bodies × IsNextBody j session o t bytes
 IsTurn n j session (SendTurn (Imprecise from to target)) =
-    Le (cuts_of j) session.position × ¬ Le (current_vector j) session.position
-    × (from ≡ session.position) × IsTarget n j session.names session.position to target
-    × ((((x : WriteRec) → ¬ IsWriteToSend j session.names session.position x) × (to ≡ join_of session.position (current_vector j)))
-    ⊎ ((t : WriteRec) × IsNextWrite j session.names session.position t × (to ≡ join_of session.position (below_of (current_vector j) t.stamp))
-    × ((o : List ℕ) × IsName o × IsWithheld n j session.names session.position to o)))
+    HoldsCut j session × ¬ HoldsVector j session × (from ≡ session.position)
+    × IsTarget n j session.names session.position to target × (EndsAtVector j session to ⊎ EndsBeforeNext n j session to)
 IsTurn n j session (SendTurn (Precise from to write)) =
-    Le (cuts_of j) session.position × ¬ Le (current_vector j) session.position
-    × (from ≡ session.position) × IsNextWrite j session.names session.position write
-    × (to ≡ join_of session.position (cut_of (current_vector j) write.stamp))
-    × ((o : List ℕ) → IsName o → ¬ IsWithheld n j session.names session.position (join_of session.position (below_of (current_vector j) write.stamp)) o)
+    HoldsCut j session × ¬ HoldsVector j session × (from ≡ session.position)
+    × IsNextWrite j session.names session.position write × (to ≡ join_of session.position (cut_of (current_vector j) write.stamp))
+    × WithholdsNone n j session write.stamp
 IsTurn n j session (SendTurn (Checkpoint to target floor rows)) = ⊥
 
 -- ---- checkpoints
