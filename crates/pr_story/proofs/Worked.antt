@@ -1,6 +1,6 @@
 -- The worked history is valid.
 use Rattle.std.proofs.Common.{◌≡◌, ℕ, ◌<◌, ◌≤◌, ◌⊎◌, inl, inr, List, [], ◌∷◌, refl, sym, ◌∙◌, ap, subst, arith, cond, nat_eq}
-use Rattle.std.specs.Prelude.{true, false, IsTrue, Bool, Some}
+use Rattle.std.specs.Prelude.{true, false, IsTrue, Bool, Some, reverse}
 use Rattle.std.proofs.lemmas.Bool.Decides.{nat_tests}
 use Rattle.std.proofs.lemmas.List.Elements.{All-cons, All-nil}
 use Rattle.pr_stamps.specs.Point.{Point, IsStamp, Before}
@@ -14,17 +14,18 @@ use Rattle.pr_sets.specs.Spans.{has, IsAllBut}
 use Rattle.pr_inval.specs.declared.kind.Kind.TheVariants.{Precise}
 use Rattle.pr_inval.specs.declared.row.Row.{Row}
 use Rattle.pr_inval.specs.declared.write_rec.WriteRec.{WriteRec}
-use Rattle.pr_story.specs.declared.event.Event.TheVariants.{Wrote, Attached, Sent, Stale, Accepted, Answered, Moved, Cut}
+use Rattle.pr_story.specs.declared.event.Event.TheVariants.{Wrote, Attached, Sent, Idle, Stale, Accepted, Answered, Moved, Cut}
 use Rattle.pr_story.specs.declared.reply.Reply.TheVariants as reply
 use Rattle.pr_story.specs.Ranges.{IsMsg, IsRow, IsBytes, IsStampOrNone}
 use Rattle.pr_story.specs.History.{journal, current_vector, WasWritten}
 use Rattle.pr_story.specs.Told.{set_of, IsPrecise}
 use Rattle.pr_story.specs.Knowledge.{IsNewest, IsNewestKnown, IsMark, IsCoveredMark, WasNamed, floor_of}
 use Rattle.pr_story.specs.Clients.{client_vector}
-use Rattle.pr_story.specs.Turns.{standing, IsTurn, IsSnapshot, IsSnapshotRow, SendTurn, StaleTurn}
+use Rattle.pr_story.specs.Turns.{standing, IsTurn, IsSnapshot, IsSnapshotRow, SendTurn, IdleTurn, StaleTurn}
 use Rattle.pr_story.specs.Lawful.{Valid, IsLawful}
-use Rattle.pr_story.specs.Counts.{AreDeclared, IsHistory}
-use Rattle.pr_story.specs.Worked.{everything, two_nodes, two_declared, does, up_to, ax, hi, stamp_one, stamp_two, write, delete, row, first_message, second_message, attached, written, sent, taken, was_read, moved, deleted, truncated, stale, sent_again, taken_again, moved_back, read_again}
+use Rattle.pr_story.specs.Counts.{AreDeclared}
+use Rattle.pr_story.specs.Scripts.{IsSettle, events_of}
+use Rattle.pr_story.specs.Worked.{everything, two_nodes, two_declared, does, up_to, ax, hi, stamp_one, stamp_two, write, delete, row, first_message, second_message, attached, written, sent, taken, idle, settled, settling, was_read, moved, deleted, truncated, stale, sent_again, taken_again, moved_back, read_again, IsWorked}
 use Rattle.pr_story.proofs.Basics.{clock_zero}
 use Rattle.pr_story.proofs.InOrder.{pairs_cons, pairs_none}
 use Rattle.pr_story.proofs.Points.{covered_node}
@@ -83,19 +84,7 @@ next (inr x) = x
 
 -- ---- the first path
 
-attached_ok : IsLawful two_nodes [] (does 1 1 (Attached 0 (up_to 0)))
-attached_ok = record {
-  node = omega arith;
-  in_range = (omega arith, is_vector 0 (omega arith));
-  in_range_time = omega arith;
-  in_range_caller = omega arith;
-  placed = refl;
-  cause = tt;
-  may_come = (refl, λ w lt. let z : ◌≡◌ {A = ℕ} (clock_of (up_to 0) w) 0 = no_clock w lt in (omega arith, λ c one le set i m. absurd (omega arith), λ below p. absurd (omega arith)));
-  time = refl;
-}
-
-written_ok : IsLawful two_nodes attached (does 0 1 (Wrote 0 write hi (up_to 0)))
+written_ok : IsLawful two_nodes [] (does 0 1 (Wrote 0 write hi (up_to 0)))
 unfolding vector_of
 written_ok = record {
   node = omega arith;
@@ -108,7 +97,19 @@ written_ok = record {
   time = refl;
 }
 
-first_turn : IsTurn 0 (journal written 0) (standing two_nodes written 0) (SendTurn (Precise (up_to 0) (up_to 1) write))
+attached_ok : IsLawful two_nodes written (does 1 1 (Attached 0 (up_to 0)))
+attached_ok = record {
+  node = omega arith;
+  in_range = (omega arith, is_vector 0 (omega arith));
+  in_range_time = omega arith;
+  in_range_caller = omega arith;
+  placed = refl;
+  cause = tt;
+  may_come = (refl, λ w lt. let z : ◌≡◌ {A = ℕ} (clock_of (up_to 0) w) 0 = no_clock w lt in (omega arith, λ c one le set i m. absurd (omega arith), λ below p. absurd (omega arith)));
+  time = refl;
+}
+
+first_turn : IsTurn 0 (journal attached 0) (standing two_nodes attached 0) (SendTurn (Precise (up_to 0) (up_to 1) write))
 unfolding vector_of
 first_turn = (
   λ v lt. omega arith,
@@ -131,14 +132,14 @@ first_turn = (
 first_ok : IsMsg first_message
 first_ok = (omega arith, omega arith, omega arith, (is_vector 0 (omega arith), is_vector 1 (omega arith), (name_ok, stamp_ok 1 (omega arith) (omega arith), tt)))
 
-sent_ok : IsLawful two_nodes written (does 0 2 (Sent first_message))
+sent_ok : IsLawful two_nodes attached (does 0 2 (Sent first_message))
 sent_ok = record {
   node = omega arith;
   in_range = first_ok;
   in_range_time = omega arith;
   in_range_caller = omega arith;
   placed = refl;
-  cause = inr (inl refl);
+  cause = inl refl;
   may_come = (refl, refl, inl first_turn);
   time = refl;
 }
@@ -156,11 +157,43 @@ taken_ok = record {
   time = refl;
 }
 
-vector_one : current_vector (journal taken 1) ≡ up_to 1
+idle_turn : IsTurn 0 (journal taken 0) (standing two_nodes taken 0) IdleTurn
+unfolding vector_of
+idle_turn = (rises 0 1 (omega arith), rises 1 1 (omega arith), λ bodies o t bytes sends. let bad : false ≡ true = bodies in absurd (cc))
+
+idle_ok : IsLawful two_nodes taken (does 0 4 (Idle 0))
+idle_ok = record {
+  node = omega arith;
+  in_range = omega arith;
+  in_range_time = omega arith;
+  in_range_caller = omega arith;
+  placed = refl;
+  cause = inr (inr (inl refl));
+  may_come = idle_turn;
+  time = refl;
+}
+
+last_turn : IsTurn 0 (journal idle 0) (standing two_nodes idle 0) IdleTurn
+unfolding vector_of
+last_turn = (rises 0 1 (omega arith), rises 1 1 (omega arith), λ bodies o t bytes sends. let bad : false ≡ true = bodies in absurd (cc))
+
+settled_ok : IsLawful two_nodes idle (does 0 5 (Idle 0))
+settled_ok = record {
+  node = omega arith;
+  in_range = omega arith;
+  in_range_time = omega arith;
+  in_range_caller = omega arith;
+  placed = refl;
+  cause = inr (inr (inr (inl refl)));
+  may_come = last_turn;
+  time = refl;
+}
+
+vector_one : current_vector (journal settled 1) ≡ up_to 1
 unfolding vector_of
 vector_one = refl
 
-precise_one : IsPrecise 1 (journal taken 1) (set_of (two_nodes.sets 1) ax)
+precise_one : IsPrecise 1 (journal settled 1) (set_of (two_nodes.sets 1) ax)
 precise_one p c =
     let d : Covers (up_to 1) p = subst (λ (v : List ℕ). Covers v p) vector_one c in
     let lt : p.node < 32 = covered_node (up_to 1) p refl d in
@@ -168,19 +201,19 @@ precise_one p c =
     let z : ◌≡◌ {A = ℕ} (clock_of (up_to 0) p.node) 0 = no_clock p.node lt in
     inr (first_message.kind, inl refl, ((omega arith, d.1), λ m. let bad : false ≡ true = m.2 in cc))
 
--- of taken there is one write
-only_write : (x : WriteRec) (body dep : List ℕ) → WasWritten taken x body dep → write ≡ x
-only_write x body dep w = elim (next (next w)) [ inl now ↦ now.0 | inr none ↦ absurd (next none) ]
+-- up to then there is one write
+only_write : (x : WriteRec) (body dep : List ℕ) → WasWritten settled x body dep → write ≡ x
+only_write x body dep w = elim (next (next (next (next (next w))))) [ inl now ↦ now.0 | inr none ↦ absurd none ]
 
-newest_one : IsNewest taken (current_vector (journal taken 1)) ax (Some stamp_one)
+newest_one : IsNewest settled (current_vector (journal settled 1)) ax (Some stamp_one)
 newest_one = (
-  (write, hi, up_to 0, inr (inr (inl (refl, refl, refl))), refl, refl, subst (λ (v : List ℕ). Covers v stamp_one) (sym vector_one) (omega arith, omega arith)),
+  (write, hi, up_to 0, inr (inr (inr (inr (inr (inl (refl, refl, refl)))))), refl, refl, subst (λ (v : List ℕ). Covers v stamp_one) (sym vector_one) (omega arith, omega arith)),
   λ s is before.
       let e : stamp_one ≡ s = ap (λ (x : WriteRec). x.stamp) (only_write is.0 is.1 is.2 is.3) ∙ is.5 in
       subst (λ (q : Point). Before stamp_one q → ⊥) e (λ k. omega arith) before,
 )
 
-read_ok : IsLawful two_nodes taken (does 1 4 (Answered 1 ax (reply.Body stamp_one) (up_to 1)))
+read_ok : IsLawful two_nodes settled (does 1 4 (Answered 1 ax (reply.Body stamp_one) (up_to 1)))
 read_ok = record {
   node = omega arith;
   in_range = (omega arith, name_ok, stamp_ok 1 (omega arith) (omega arith), is_vector 1 (omega arith));
@@ -189,7 +222,7 @@ read_ok = record {
   placed = refl;
   cause = tt;
   may_come = (
-    (precise_one, newest_one, (write, hi, up_to 0, inr (inr (inl (refl, refl, refl))), refl, refl, refl), refl),
+    (precise_one, newest_one, (write, hi, up_to 0, inr (inr (inr (inr (inr (inl (refl, refl, refl)))))), refl, refl, refl), refl),
     sym vector_one,
     λ v lt. let z : ◌≡◌ {A = ℕ} (clock_of zero_vector v) 0 = clock_zero v in omega arith,
   );
@@ -197,11 +230,11 @@ read_ok = record {
 }
 
 pub first_path : Valid two_nodes was_read
-first_path = (read_ok, (taken_ok, (sent_ok, (written_ok, (attached_ok, tt)))))
+first_path = (read_ok, (settled_ok, (idle_ok, (taken_ok, (sent_ok, (attached_ok, (written_ok, tt)))))))
 
 -- ---- a client that moves, and a delete
 
-moved_ok : IsLawful two_nodes was_read (does 0 3 (Moved 1))
+moved_ok : IsLawful two_nodes was_read (does 0 6 (Moved 1))
 moved_ok = record { node = omega arith; in_range = omega arith; in_range_time = omega arith; in_range_caller = omega arith; placed = tt; cause = tt; may_come = tt; time = refl }
 
 now_one : current_vector (journal moved 0) ≡ up_to 1
@@ -214,14 +247,14 @@ seen_one = refl
 
 known_one : IsNewestKnown (journal moved 0) ax (Some stamp_one)
 known_one = (
-  inr (inr (inl (refl, refl))),
-  λ s named before. elim (next (next named)) [
+  inr (inr (inr (inr (inl (refl, refl))))),
+  λ s named before. elim (next (next (next (next named)))) [
     | inl now ↦ subst (λ (q : Point). Before stamp_one q → ⊥) now.1 (λ k. omega arith) before
     | inr none ↦ none
   ],
 )
 
-deleted_ok : IsLawful two_nodes moved (does 0 4 (Wrote 1 delete [] (up_to 1)))
+deleted_ok : IsLawful two_nodes moved (does 0 7 (Wrote 1 delete [] (up_to 1)))
 deleted_ok = record {
   node = omega arith;
   in_range = ((name_ok, stamp_ok 2 (omega arith) (omega arith), stamp_ok 1 (omega arith) (omega arith)), All-nil (λ b. b < 256), omega arith, is_vector 1 (omega arith));
@@ -251,21 +284,21 @@ now_two : current_vector (journal deleted 0) ≡ up_to 2
 unfolding vector_of
 now_two = refl
 
-truncated_ok : IsLawful two_nodes deleted (does 0 5 (Cut (up_to 2)))
+truncated_ok : IsLawful two_nodes deleted (does 0 8 (Cut (up_to 2)))
 truncated_ok = record { node = omega arith; in_range = is_vector 2 (omega arith); in_range_time = omega arith; in_range_caller = omega arith; placed = tt; cause = tt; may_come = sym now_two; time = refl }
 
 stale_turn : IsTurn 0 (journal truncated 0) (standing two_nodes truncated 0) (StaleTurn (up_to 2))
 unfolding vector_of
 stale_turn = (refl, λ le. let bad : 2 ≤ 1 = le 0 (omega arith) in omega arith)
 
-stale_ok : IsLawful two_nodes truncated (does 0 6 (Stale 0 (up_to 2)))
+stale_ok : IsLawful two_nodes truncated (does 0 9 (Stale 0 (up_to 2)))
 stale_ok = record {
   node = omega arith;
   in_range = (omega arith, is_vector 2 (omega arith));
   in_range_time = omega arith;
   in_range_caller = omega arith;
   placed = refl;
-  cause = inr (inr (inr (inr (inr (inr (inr (inl refl)))))));
+  cause = inr (inr (inr (inr (inr (inr (inr (inr (inl refl))))))));
   may_come = stale_turn;
   time = refl;
 }
@@ -285,7 +318,7 @@ own_all set p c = inl (at_zero 2 p (subst (λ (v : List ℕ). Covers v p) still_
 known_both : (o : List ℕ) (s : Point) → WasNamed (journal stale 0) o s → (ax ≡ o) × ((stamp_two ≡ s) ⊎ (stamp_one ≡ s))
 known_both o s named = elim (next (next named)) [
   | inl two ↦ (two.0, inl two.1)
-  | inr old ↦ elim (next (next old)) [ inl one ↦ (one.0, inr one.1) | inr none ↦ absurd none ]
+  | inr old ↦ elim (next (next (next (next old)))) [ inl one ↦ (one.0, inr one.1) | inr none ↦ absurd none ]
 ]
 
 not_after : (s : Point) → (stamp_two ≡ s) ⊎ (stamp_one ≡ s) → Before stamp_two s → ⊥
@@ -330,19 +363,19 @@ second_ok = (
   (is_vector 2 (omega arith), tt, is_vector 2 (omega arith), All-cons IsRow row [] (name_ok, stamp_ok 2 (omega arith) (omega arith), All-nil (λ (m : Mark). IsStamp m.stamp × IsStampOrNone m.prev)) (All-nil IsRow)),
 )
 
-sent_again_ok : IsLawful two_nodes stale (does 0 7 (Sent second_message))
+sent_again_ok : IsLawful two_nodes stale (does 0 10 (Sent second_message))
 sent_again_ok = record {
   node = omega arith;
   in_range = second_ok;
   in_range_time = omega arith;
   in_range_caller = omega arith;
   placed = refl;
-  cause = inr (inr (inr (inr (inr (inr (inr (inr (inl refl))))))));
+  cause = inr (inr (inr (inr (inr (inr (inr (inr (inr (inl refl)))))))));
   may_come = (refl, refl, inr snapshot);
   time = refl;
 }
 
-taken_again_ok : IsLawful two_nodes sent_again (does 1 8 (Accepted second_message (up_to 2)))
+taken_again_ok : IsLawful two_nodes sent_again (does 1 11 (Accepted second_message (up_to 2)))
 unfolding vector_of
 taken_again_ok = record {
   node = omega arith;
@@ -357,7 +390,7 @@ taken_again_ok = record {
 
 -- ---- the client moves back and reads
 
-moved_back_ok : IsLawful two_nodes taken_again (does 1 9 (Moved 1))
+moved_back_ok : IsLawful two_nodes taken_again (does 1 12 (Moved 1))
 moved_back_ok = record { node = omega arith; in_range = omega arith; in_range_time = omega arith; in_range_caller = omega arith; placed = tt; cause = tt; may_come = tt; time = refl }
 
 vector_two : current_vector (journal moved_back 1) ≡ up_to 2
@@ -378,7 +411,7 @@ precise_two p c =
 both_writes : (x : WriteRec) (body dep : List ℕ) → WasWritten moved_back x body dep → (delete ≡ x) ⊎ (write ≡ x)
 both_writes x body dep w = elim (next (next (next (next (next w))))) [
   | inl two ↦ inl two.0
-  | inr old ↦ elim (next (next (next (next old)))) [ inl one ↦ inr one.0 | inr none ↦ absurd (next none) ]
+  | inr old ↦ elim (next (next (next (next (next (next (next old))))))) [ inl one ↦ inr one.0 | inr none ↦ absurd none ]
 ]
 
 stamp_of : (x : WriteRec) (s : Point) → (delete ≡ x) ⊎ (write ≡ x) → x.stamp ≡ s → (stamp_two ≡ s) ⊎ (stamp_one ≡ s)
@@ -391,7 +424,7 @@ newest_two = (
   λ s is. not_after s (stamp_of is.0 s (both_writes is.0 is.1 is.2 is.3) is.5),
 )
 
-read_again_ok : IsLawful two_nodes moved_back (does 1 10 (Answered 1 ax (reply.Gone stamp_two) (up_to 2)))
+read_again_ok : IsLawful two_nodes moved_back (does 1 13 (Answered 1 ax (reply.Gone stamp_two) (up_to 2)))
 read_again_ok = record {
   node = omega arith;
   in_range = (omega arith, name_ok, stamp_ok 2 (omega arith) (omega arith), is_vector 2 (omega arith));
@@ -414,7 +447,7 @@ worked_valid : Valid two_nodes read_again
 worked_valid = (read_again_ok, (moved_back_ok, (taken_again_ok, (sent_again_ok, stale_valid))))
 
 path_declared : AreDeclared two_declared was_read
-path_declared = ((omega arith, omega arith), ((omega arith, omega arith), ((omega arith, omega arith), ((omega arith, omega arith), ((omega arith, omega arith), tt)))))
+path_declared = ((omega arith, omega arith), ((omega arith, omega arith), ((omega arith, omega arith), ((omega arith, omega arith), ((omega arith, omega arith), ((omega arith, omega arith), ((omega arith, omega arith), tt)))))))
 
 cut_declared : AreDeclared two_declared truncated
 cut_declared = ((omega arith, tt), ((omega arith, omega arith), ((omega arith, omega arith), path_declared)))
@@ -422,5 +455,23 @@ cut_declared = ((omega arith, tt), ((omega arith, omega arith), ((omega arith, o
 worked_declared : AreDeclared two_declared read_again
 worked_declared = ((omega arith, omega arith), ((omega arith, omega arith), ((omega arith, omega arith), ((omega arith, omega arith), ((omega arith, omega arith), cut_declared)))))
 
-pub worked : IsHistory two_nodes two_declared read_again
-worked = record { valid = worked_valid; declared = worked_declared }
+-- a round with the message and one without
+is_settle : IsSettle (0 ∷ []) (events_of (reverse settling))
+is_settle = (
+  Attached 0 (up_to 0) ∷ [],
+  Sent first_message ∷ (Accepted first_message (up_to 1) ∷ (Idle 0 ∷ (Idle 0 ∷ []))),
+  1,
+  refl,
+  (refl, refl),
+  (
+    Sent first_message ∷ (Accepted first_message (up_to 1) ∷ (Idle 0 ∷ [])),
+    Idle 0 ∷ [],
+    refl,
+    (Sent first_message ∷ (Accepted first_message (up_to 1) ∷ (Idle 0 ∷ [])), [], refl, (refl, tt, refl, refl), refl),
+    tt,
+    ((Idle 0 ∷ [], [], refl, refl, refl), λ s. s),
+  ),
+)
+
+pub worked : IsWorked
+worked = record { history = record { valid = worked_valid; declared = worked_declared }; settle = is_settle; part = refl }

@@ -1,6 +1,6 @@
--- A worked history: a write and its message, a read; then a client moves, deletes, the source is cut, sends a checkpoint,
--- and the client moves back and reads. Each of its beginnings stands under its own name.
-use Rattle.std.specs.Prelude.{ℕ, List, [], ◌∷◌, replicate, None, Some, false, true}
+-- A worked history: a write, a settle and a read; then a client moves, deletes, the source is cut, sends a checkpoint, and
+-- the client moves back and reads. Each of its beginnings stands under its own name.
+use Rattle.std.specs.Prelude.{ℕ, List, [], ◌∷◌, ◌++◌, ◌≡◌, replicate, reverse, None, Some, false, true}
 use Rattle.pr_stamps.specs.Point.{Point}
 use Rattle.pr_names.specs.Span.{Span}
 use Rattle.pr_names.specs.declared.bound.Bound.TheVariants.{End}
@@ -9,9 +9,10 @@ use Rattle.pr_inval.specs.declared.msg.Msg.{Msg}
 use Rattle.pr_inval.specs.declared.row.Row.{Row}
 use Rattle.pr_inval.specs.declared.write_rec.WriteRec.{WriteRec}
 use Rattle.pr_story.specs.declared.event.Event.{Event}
-use Rattle.pr_story.specs.declared.event.Event.TheVariants.{Wrote, Attached, Sent, Stale, Accepted, Answered, Moved, Cut}
+use Rattle.pr_story.specs.declared.event.Event.TheVariants.{Wrote, Attached, Sent, Idle, Stale, Accepted, Answered, Moved, Cut}
 use Rattle.pr_story.specs.declared.reply.Reply.TheVariants as reply
-use Rattle.pr_story.specs.Counts.{Counts}
+use Rattle.pr_story.specs.Counts.{Counts, IsHistory}
+use Rattle.pr_story.specs.Scripts.{IsSettle, events_of}
 use Rattle.pr_story.specs.History.{Plan, NodeEntry}
 
 -- every name
@@ -59,49 +60,67 @@ abbrev pub first_message : Msg
 first_message = record { time = 2; stream = 0; number = 1; kind = Precise (up_to 0) (up_to 1) write }
 
 abbrev pub second_message : Msg
-second_message = record { time = 7; stream = 0; number = 2; kind = Checkpoint (up_to 2) [] (up_to 2) (row ∷ []) }
+second_message = record { time = 10; stream = 0; number = 2; kind = Checkpoint (up_to 2) [] (up_to 2) (row ∷ []) }
 
--- ---- the first path
-
-abbrev pub attached : List NodeEntry
-attached = does 1 1 (Attached 0 (up_to 0)) ∷ []
+-- ---- the first path: a write, a settle that brings it to the other node, and a read there
 
 abbrev pub written : List NodeEntry
-written = does 0 1 (Wrote 0 write hi (up_to 0)) ∷ attached
+written = does 0 1 (Wrote 0 write hi (up_to 0)) ∷ []
+
+abbrev pub attached : List NodeEntry
+attached = does 1 1 (Attached 0 (up_to 0)) ∷ written
 
 abbrev pub sent : List NodeEntry
-sent = does 0 2 (Sent first_message) ∷ written
+sent = does 0 2 (Sent first_message) ∷ attached
 
 abbrev pub taken : List NodeEntry
 taken = does 1 3 (Accepted first_message (up_to 1)) ∷ sent
 
+abbrev pub idle : List NodeEntry
+idle = does 0 4 (Idle 0) ∷ taken
+
+abbrev pub settled : List NodeEntry
+settled = does 0 5 (Idle 0) ∷ idle
+
+-- the settle's own entries
+abbrev pub settling : List NodeEntry
+settling =
+    does 0 5 (Idle 0)
+    ∷ (does 0 4 (Idle 0) ∷ (does 1 3 (Accepted first_message (up_to 1)) ∷ (does 0 2 (Sent first_message) ∷ (does 1 1 (Attached 0 (up_to 0)) ∷ []))))
+
 abbrev pub was_read : List NodeEntry
-was_read = does 1 4 (Answered 1 ax (reply.Body stamp_one) (up_to 1)) ∷ taken
+was_read = does 1 4 (Answered 1 ax (reply.Body stamp_one) (up_to 1)) ∷ settled
 
 -- ---- a client that moves, and a delete
 
 abbrev pub moved : List NodeEntry
-moved = does 0 3 (Moved 1) ∷ was_read
+moved = does 0 6 (Moved 1) ∷ was_read
 
 abbrev pub deleted : List NodeEntry
-deleted = does 0 4 (Wrote 1 delete [] (up_to 1)) ∷ moved
+deleted = does 0 7 (Wrote 1 delete [] (up_to 1)) ∷ moved
 
 -- ---- a cut, and the checkpoint that it makes needed
 
 abbrev pub truncated : List NodeEntry
-truncated = does 0 5 (Cut (up_to 2)) ∷ deleted
+truncated = does 0 8 (Cut (up_to 2)) ∷ deleted
 
 abbrev pub stale : List NodeEntry
-stale = does 0 6 (Stale 0 (up_to 2)) ∷ truncated
+stale = does 0 9 (Stale 0 (up_to 2)) ∷ truncated
 
 abbrev pub sent_again : List NodeEntry
-sent_again = does 0 7 (Sent second_message) ∷ stale
+sent_again = does 0 10 (Sent second_message) ∷ stale
 
 abbrev pub taken_again : List NodeEntry
-taken_again = does 1 8 (Accepted second_message (up_to 2)) ∷ sent_again
+taken_again = does 1 11 (Accepted second_message (up_to 2)) ∷ sent_again
 
 abbrev pub moved_back : List NodeEntry
-moved_back = does 1 9 (Moved 1) ∷ taken_again
+moved_back = does 1 12 (Moved 1) ∷ taken_again
 
 abbrev pub read_again : List NodeEntry
-read_again = does 1 10 (Answered 1 ax (reply.Gone stamp_two) (up_to 2)) ∷ moved_back
+read_again = does 1 13 (Answered 1 ax (reply.Gone stamp_two) (up_to 2)) ∷ moved_back
+
+-- it is a history, and its settle is one: of a round with the message, and one without
+pub record IsWorked : Type 0 where
+  pub history : IsHistory two_nodes two_declared read_again
+  pub settle : IsSettle (0 ∷ []) (events_of (reverse settling))
+  pub part : settled ≡ settling ++ written

@@ -4,8 +4,7 @@ ghost use Rattle.pr_story.specs.Lawful.{Valid};
 ghost use Rattle.pr_story.specs.Laws.{AnswersAlike, FactsThroughout, IsShort, NoneGoesBack, SentUseful};
 ghost use Rattle.pr_story.specs.Places.{EntriesHavePlaces, SentHavePlaces};
 ghost use Rattle.pr_story.specs.Statements.{HonestKeepsClosed, JobsAreRuns, LessIsLeft, MarkedIsBegun, MarkedPhases, NamelessIsTold, NothingBegins, PhaseJobsMerge, ReadsAreSo, ScriptDetermines, SettlesSettle, SettlesTell, HistoriesName, StaysInTime, WholeIsBegun, MergesAreHonest, NeverBehind, NodesAnswerAlike, OneMore, CommandsDetermine, OneTurn, FewInvalidations, LinesDetermine, Merges, TargetsMeet};
-ghost use Rattle.pr_story.specs.Counts.{IsHistory};
-ghost use Rattle.pr_story.specs.Worked.{read_again, two_declared, two_nodes};
+ghost use Rattle.pr_story.specs.Worked.{IsWorked};
 ghost use Rattle.std.specs.Prelude.{List, ℕ};
 
 /// At every place of a valid history each node's vector is causally closed, no node is told more of a writer than the
@@ -176,8 +175,8 @@ pub fn marked_runs_are_begun()
     ensures { MarkedIsBegun }
 {}
 
-/// There are histories: one in which a write and its message reach a second node, whose client then moves,
-/// deletes, and comes back after a cut and the checkpoint that it makes needed.
+/// There are histories: one in which a write comes to a second node by a settle, and is read there by a client that then
+/// moves, deletes, and comes back after a cut and the checkpoint that it makes needed.
 pub fn worked_histories_are_valid()
-    ensures { IsHistory two_nodes two_declared read_again }
+    ensures { IsWorked }
 {}
