@@ -15,7 +15,7 @@ use Rattle.pr_story.specs.declared.event.Event.{Event}
 use Rattle.pr_story.specs.declared.event.Event.TheVariants.{Wrote, Accepted}
 use Rattle.pr_story.specs.History.{Accepts, clock_brought, current_clock}
 use Rattle.pr_story.specs.Told.{IsLit}
-use Rattle.pr_story.specs.Knowledge.{IsOf, TellsOf, WasTold, Knows, cut_in, cuts_of}
+use Rattle.pr_story.specs.Knowledge.{IsOf, TellsOf, HeardOf, Knows, cut_in, cuts_of}
 use Rattle.pr_story.proofs.Known.{points_differ, known_told}
 use Rattle.pr_node.specs.Ties.{IsLogOf}
 use Rattle.pr_node.proofs.Clocks.{cut_same, same_current, join_accepted, raised_is, not_covered}
@@ -52,7 +52,7 @@ tells (Accepted msg at) s = tells_kind msg.kind s
 tells _ s = inr (λ y t same. absurd t)
 
 -- a write with this stamp is known, or none was told
-first_told : (j : List Entry) (s : Point) → ((x : WriteRec) × Knows j x × (x.stamp ≡ s)) ⊎ ((y : WriteRec) → WasTold j y → y.stamp ≡ s → ⊥)
+first_told : (j : List Entry) (s : Point) → ((x : WriteRec) × Knows j x × (x.stamp ≡ s)) ⊎ ((y : WriteRec) → HeardOf j y → y.stamp ≡ s → ⊥)
 first_told [] s = inr (λ y t same. absurd t)
 first_told (e ∷ j) s = elim (first_told j s) [
   | inl old ↦ inl (old.0, inl old.1, old.2)

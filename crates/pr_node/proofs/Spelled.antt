@@ -24,7 +24,7 @@ use Rattle.pr_story.specs.declared.entry.Entry.{Entry}
 use Rattle.pr_story.specs.declared.event.Event.{Event}
 use Rattle.pr_story.specs.declared.event.Event.TheVariants.{Wrote, Accepted, Cut}
 use Rattle.pr_story.specs.History.{Accepts, HasAccepted, Writes, SomeEvent, clock_brought, current_clock, current_vector}
-use Rattle.pr_story.specs.Knowledge.{IsOf, HasRow, TellsOf, WasTold, NamesStamp, WasNamed, IsMark, floor_in, floor_after, floor_of}
+use Rattle.pr_story.specs.Knowledge.{IsOf, HasRow, TellsOf, HeardOf, NamesStamp, WasNamed, IsMark, floor_in, floor_after, floor_of}
 use Rattle.pr_story.specs.Ranges.{IsKind as IsKindInRange, IsRow as IsRowInRange, IsStampOrNone}
 use Rattle.pr_story.specs.Turns.{IsTurn, SendTurn, IsSnapshot, IsSnapshotRow}
 use Rattle.pr_story.proofs.Basics.{clock_zero}
@@ -124,11 +124,11 @@ told_event j (Accepted msg at) x k t = by msg.kind k t
     by (Body name stamp bytes) k t = absurd t
 told_event j _ x k t = absurd t
 
-told_write : (j : List Entry) → IsSpelled j → (x : WriteRec) → WasTold j x → IsStamp x.stamp × IsPrev x.prev x.stamp
+told_write : (j : List Entry) → IsSpelled j → (x : WriteRec) → HeardOf j x → IsStamp x.stamp × IsPrev x.prev x.stamp
 told_write [] spelled x t = absurd t
 told_write (e ∷ j) spelled x t = elim t [ inl now ↦ told_event j e.event x spelled.0 now | inr old ↦ told_write j spelled.1 x old ]
 
-told_named : (j : List Entry) (x : WriteRec) → WasTold j x → WasNamed j x.name x.stamp
+told_named : (j : List Entry) (x : WriteRec) → HeardOf j x → WasNamed j x.name x.stamp
 told_named [] x t = absurd t
 told_named (e ∷ j) x t = elim t [ inl now ↦ inl (by e.event now) | inr old ↦ inr (told_named j x old) ]
   where
@@ -260,7 +260,7 @@ past position v s range c n =
 pub turn_kind : (n : ℕ) (j : List Entry) (session : Standing) (kind : Kind) → IsSpelled j → IsKindInRange kind → IsTurn n j session (SendTurn kind) → IsKind kind
 turn_kind n j session (Precise from to write) spelled range t =
     let x = t.3 in
-    let told : WasTold j write = known_told j write x.0.0 in
+    let told : HeardOf j write = known_told j write x.0.0 in
     let w = told_write j spelled write told in (
       range.0,
       range.1,

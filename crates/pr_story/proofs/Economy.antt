@@ -14,7 +14,7 @@ use Rattle.pr_story.specs.declared.event.Event.{Event}
 use Rattle.pr_story.specs.declared.event.Event.TheVariants.{Wrote, Attached, Sent, Accepted}
 use Rattle.pr_inval.specs.Points.{to_of, is_invalidation}
 use Rattle.pr_story.specs.History.{Plan, NodeEntry, journal, WasWritten, clock_brought, current_clock, current_vector}
-use Rattle.pr_story.specs.Knowledge.{TellsOf, WasTold, Knows}
+use Rattle.pr_story.specs.Knowledge.{TellsOf, HeardOf, Knows}
 use Rattle.pr_story.specs.Turns.{standing, Attaches, position, IsWriteToSend, IsNextWrite, IsTurn, IsSnapshot, SendTurn}
 use Rattle.pr_story.specs.Lawful.{IsLawful, Valid}
 use Rattle.pr_story.specs.Economy.{IsNoNews, IsQuiet, counts_invalidation, invalidations, IsAmong}
@@ -159,7 +159,7 @@ module _ (plan : Plan) (g : List NodeEntry) (f : World g) (m : ℕ) (names : Lis
         let grow : (v : ℕ) → v < 32 → clock_of p v ≤ clock_of q v = λ v lt. let e : clock_of q v ≡ max (clock_of p v) (clock_of (cut_of (current_vector (journal g m)) t.stamp) v) = up v lt in omega arith in
         let r : (rest : List WriteRec) × (length rest + 1 ≡ length o.left) × ((x : WriteRec) → IsAmong x o.left → (x ≡ t → ⊥) → IsAmong x rest) = without t o.left (o.all t next.0) in
         let n : t.stamp.node < 32 = known_node t next.0.0 in
-        let told : WasTold (journal g m) t = known_told (journal g m) t next.0.0 in
+        let told : HeardOf (journal g m) t = known_told (journal g m) t next.0.0 in
         let reach : t.stamp.clock ≤ clock_at g m t.stamp.node = told_covered g f m t told in
         let w : (body : List ℕ) × (dep : List ℕ) × WasWritten g t body dep = told_written g f m t told in
         let one : 1 ≤ t.stamp.clock = (f.is_own t w.0 w.1 w.2).one in

@@ -12,7 +12,7 @@ use Rattle.pr_story.specs.declared.event.Event.{Event}
 use Rattle.pr_story.specs.declared.event.Event.TheVariants.{Wrote, Accepted, Dropped}
 use Rattle.pr_story.specs.declared.entry.Entry.{Entry}
 use Rattle.pr_story.specs.History.{NodeEntry, journal, Writes, Accepts, WasWritten, HasAccepted}
-use Rattle.pr_story.specs.Knowledge.{WasTold, Knows, body_in, body_after, held_body}
+use Rattle.pr_story.specs.Knowledge.{HeardOf, Knows, body_in, body_after, held_body}
 use Rattle.pr_inval.specs.Points.{is_this}
 use Rattle.pr_story.proofs.World.{World, WroteIn, told_one, accepted_honest, wrote_written}
 
@@ -28,18 +28,18 @@ points_differ s t = elim (eqb_tells s.clock t.clock) [
   | inr c ↦ inr (λ e. c.1 (ap (λ (p : Point). p.clock) e))
 ]
 
-told_known_where : (j : List Entry) (x : WriteRec) → ((y : WriteRec) → WasTold j y → y.stamp ≡ x.stamp → y ≡ x) → WasTold j x → Knows j x
+told_known_where : (j : List Entry) (x : WriteRec) → ((y : WriteRec) → HeardOf j y → y.stamp ≡ x.stamp → y ≡ x) → HeardOf j x → Knows j x
 told_known_where [] x one t = absurd t
 told_known_where (e ∷ j) x one t = elim t [
   | inl now ↦ inr (now, λ y u. one y (inr u))
   | inr old ↦ inl (told_known_where j x (λ y u. one y (inr u)) old)
 ]
 
-pub known_told : (j : List Entry) (x : WriteRec) → Knows j x → WasTold j x
+pub known_told : (j : List Entry) (x : WriteRec) → Knows j x → HeardOf j x
 known_told [] x k = absurd k
 known_told (e ∷ j) x k = elim k [ inl old ↦ inr (known_told j x old) | inr now ↦ inl now.0 ]
 
-pub told_known : (h : List NodeEntry) → World h → (n : ℕ) (x : WriteRec) → WasTold (journal h n) x → Knows (journal h n) x
+pub told_known : (h : List NodeEntry) → World h → (n : ℕ) (x : WriteRec) → HeardOf (journal h n) x → Knows (journal h n) x
 told_known h f n x t = told_known_where (journal h n) x (λ y u e. told_one h f n n y x u t e) t
 
 -- ---- bodies

@@ -13,7 +13,7 @@ use Rattle.pr_inval.specs.declared.write_rec.WriteRec.{WriteRec}
 use Rattle.pr_inval.specs.Points.{from_of, to_of, CoversPoint}
 use Rattle.pr_story.specs.History.{NodeEntry, journal, WasWritten, current_clock, current_vector}
 use Rattle.pr_story.specs.Told.{IsLit}
-use Rattle.pr_story.specs.Knowledge.{IsOf, Knows, WasTold}
+use Rattle.pr_story.specs.Knowledge.{IsOf, Knows, HeardOf}
 use Rattle.pr_story.specs.Turns.{IsWriteToSend, IsWithheld, IsTarget, IsTurn, SendTurn}
 use Rattle.pr_inval.specs.Standing.{Standing}
 use Rattle.pr_story.specs.Messages.{IsWithinWorld, CoversOnly, IsHonest}
@@ -157,7 +157,7 @@ module _ (h : List NodeEntry) (f : World h) (m : ℕ) where
     precise_honest : (from to : List ℕ) (write : WriteRec) → IsTurn m (journal h m) st (SendTurn (Precise from to write)) → IsHonest h (Precise from to write)
     precise_honest from to write t =
         let v : List ℕ = current_vector (journal h m) in
-        let told : WasTold (journal h m) write = known_told (journal h m) write t.3.0.0 in
+        let told : HeardOf (journal h m) write = known_told (journal h m) write t.3.0.0 in
         let mine : (body : List ℕ) × (dep : List ℕ) × WasWritten h write body dep = told_written h f m write told in
         let own : IsOwn h write mine.1 = f.is_own write mine.0 mine.1 mine.2 in
         let ends : clock_of (join_of st.position (cut_of (current_vector (journal h m)) write.stamp)) write.stamp.node ≡ max (clock_of st.position write.stamp.node) (clock_of (cut_of (current_vector (journal h m)) write.stamp) write.stamp.node) = join_clock st.position (cut_of (current_vector (journal h m)) write.stamp) write.stamp.node own.node in

@@ -18,7 +18,7 @@ use Rattle.pr_inval.specs.Points.{to_of, target_of, CoversPoint}
 use Rattle.pr_story.specs.declared.entry.Entry.{Entry}
 use Rattle.pr_story.specs.History.{NodeEntry, journal, Accepts, WasWritten, HasAccepted, current_clock, current_vector}
 use Rattle.pr_story.specs.Told.{rest_of, first_with, set_of, IsTold, IsPrecise}
-use Rattle.pr_story.specs.Knowledge.{IsOf, HasRow, TellsOf, WasTold, NamesStamp, WasNamed, KnowsGone, IsGone, IsNewestKnown, IsNewest, IsCoveredWrite, IsCoveredMark, IsMark, floor_in, floor_after, floor_of}
+use Rattle.pr_story.specs.Knowledge.{IsOf, HasRow, TellsOf, HeardOf, NamesStamp, WasNamed, KnowsGone, IsGone, IsNewestKnown, IsNewest, IsCoveredWrite, IsCoveredMark, IsMark, floor_in, floor_after, floor_of}
 use Rattle.pr_story.specs.Messages.{IsWithinWorld, IsHonestRow, IsHonest}
 use Rattle.pr_story.specs.Turns.{IsSnapshot, IsSnapshotRow}
 use Rattle.pr_story.proofs.Naming.{NamesGone, WasNamedGone, TellsMark, WasToldMark, known_gone_told, known_gone_where, known_mark_told, known_mark_where}
@@ -65,7 +65,7 @@ names_own (Wrote client write body after) x t = (ap (λ (y : WriteRec). y.name) 
 names_own (Accepted msg at) x t = inl (x, t, refl, refl)
 names_own _ x t = absurd t
 
-pub told_named : (j : List Entry) (x : WriteRec) → WasTold j x → WasNamed j x.name x.stamp
+pub told_named : (j : List Entry) (x : WriteRec) → HeardOf j x → WasNamed j x.name x.stamp
 told_named [] x t = absurd t
 told_named (e ∷ j) x t = elim t [ inl now ↦ inl (names_own e.event x now) | inr old ↦ inr (told_named j x old) ]
 
@@ -86,7 +86,7 @@ stamp_event (Accepted msg at) o s t = elim t [
 stamp_event _ o s t = absurd t
 
 -- by a told write, or by a row
-named_how : (j : List Entry) (o : List ℕ) (s : Point) → WasNamed j o s → ((x : WriteRec) × WasTold j x × (x.name ≡ o) × (x.stamp ≡ s)) ⊎ ((k : Kind) × (row : Row) × HasAccepted j k × HasRow k row × (row.name ≡ o) × (row.newest ≡ s))
+named_how : (j : List Entry) (o : List ℕ) (s : Point) → WasNamed j o s → ((x : WriteRec) × HeardOf j x × (x.name ≡ o) × (x.stamp ≡ s)) ⊎ ((k : Kind) × (row : Row) × HasAccepted j k × HasRow k row × (row.name ≡ o) × (row.newest ≡ s))
 named_how [] o s t = absurd t
 named_how (e ∷ j) o s t = elim t [
   | inl now ↦ elim (stamp_event e.event o s now) [
@@ -124,7 +124,7 @@ gone_event (Accepted msg at) o s gone t = elim t [
 ]
 gone_event _ o s gone t = absurd t
 
-gone_how : (j : List Entry) (o : List ℕ) (s : Point) (gone : Bool) → WasNamedGone j o s gone → ((x : WriteRec) × WasTold j x × (x.name ≡ o) × (x.stamp ≡ s) × (x.gone ≡ gone)) ⊎ ((k : Kind) × (row : Row) × HasAccepted j k × HasRow k row × (row.name ≡ o) × (row.newest ≡ s) × (row.gone ≡ gone))
+gone_how : (j : List Entry) (o : List ℕ) (s : Point) (gone : Bool) → WasNamedGone j o s gone → ((x : WriteRec) × HeardOf j x × (x.name ≡ o) × (x.stamp ≡ s) × (x.gone ≡ gone)) ⊎ ((k : Kind) × (row : Row) × HasAccepted j k × HasRow k row × (row.name ≡ o) × (row.newest ≡ s) × (row.gone ≡ gone))
 gone_how [] o s gone t = absurd t
 gone_how (e ∷ j) o s gone t = elim t [
   | inl now ↦ elim (gone_event e.event o s gone now) [
@@ -144,7 +144,7 @@ marks_own (Wrote client write body after) x mark t s p = (ap (λ (y : WriteRec).
 marks_own (Accepted msg at) x mark t s p = inl (x, t, refl, s, p)
 marks_own _ x mark t s p = absurd t
 
-pub told_marked : (j : List Entry) (x : WriteRec) (mark : Mark) → WasTold j x → x.stamp ≡ mark.stamp → x.prev ≡ mark.prev → WasToldMark j x.name mark
+pub told_marked : (j : List Entry) (x : WriteRec) (mark : Mark) → HeardOf j x → x.stamp ≡ mark.stamp → x.prev ≡ mark.prev → WasToldMark j x.name mark
 told_marked [] x mark t s p = absurd t
 told_marked (e ∷ j) x mark t s p = elim t [ inl now ↦ inl (marks_own e.event x mark now s p) | inr old ↦ inr (told_marked j x mark old s p) ]
 
@@ -164,7 +164,7 @@ mark_event (Accepted msg at) o mark t = elim t [
 ]
 mark_event _ o mark t = absurd t
 
-marked_how : (j : List Entry) (o : List ℕ) (mark : Mark) → WasToldMark j o mark → ((x : WriteRec) × WasTold j x × (x.name ≡ o) × (x.stamp ≡ mark.stamp) × (x.prev ≡ mark.prev)) ⊎ ((k : Kind) × (row : Row) × HasAccepted j k × HasRow k row × (row.name ≡ o) × Contains row.marks mark)
+marked_how : (j : List Entry) (o : List ℕ) (mark : Mark) → WasToldMark j o mark → ((x : WriteRec) × HeardOf j x × (x.name ≡ o) × (x.stamp ≡ mark.stamp) × (x.prev ≡ mark.prev)) ⊎ ((k : Kind) × (row : Row) × HasAccepted j k × HasRow k row × (row.name ≡ o) × Contains row.marks mark)
 marked_how [] o mark t = absurd t
 marked_how (e ∷ j) o mark t = elim t [
   | inl now ↦ elim (mark_event e.event o mark now) [
@@ -208,7 +208,7 @@ module _ (h : List NodeEntry) (f : World h) (n : ℕ) where
       (i.one, omega arith)
 
   -- a told write is a covered one
-  told_is_covered : (x : WriteRec) → WasTold (journal h n) x → IsCoveredWrite h (current_vector (journal h n)) x.name x.stamp
+  told_is_covered : (x : WriteRec) → HeardOf (journal h n) x → IsCoveredWrite h (current_vector (journal h n)) x.name x.stamp
   told_is_covered x t =
       let w : (body : List ℕ) × (dep : List ℕ) × WasWritten h x body dep = told_written h f n x t in
       (x, w.0, w.1, w.2, refl, refl, covers_vector x w.0 w.1 w.2 (told_covered h f n x t))
@@ -272,9 +272,9 @@ module _ (h : List NodeEntry) (f : World h) (n : ℕ) where
   module _ (set : List ℕ → Bool) (o : List ℕ) (in_set : IsTrue (set o)) (precise : IsPrecise n (journal h n) set) where
     -- a covered write was told, or a row has its name
     told_or_row : (x : WriteRec) (body dep : List ℕ) → WasWritten h x body dep → x.name ≡ o → Covers (current_vector (journal h n)) x.stamp →
-        WasTold (journal h n) x ⊎ ((k : Kind) × (row : Row) × HasAccepted (journal h n) k × HasRow k row × (row.name ≡ x.name) × Covers (to_of k) x.stamp)
+        HeardOf (journal h n) x ⊎ ((k : Kind) × (row : Row) × HasAccepted (journal h n) k × HasRow k row × (row.name ≡ x.name) × Covers (to_of k) x.stamp)
     told_or_row x body dep w name c = elim (told_for set o x.stamp (subst (λ (q : List ℕ). IsName q) name (f.is_own x body dep w).name) in_set (precise x.stamp c)) [
-      | inl own ↦ inl (subst (λ (m : ℕ). WasTold (journal h m) x) own (home_told h f x body dep w))
+      | inl own ↦ inl (subst (λ (m : ℕ). HeardOf (journal h m) x) own (home_told h f x body dep w))
       | inr a ↦ elim (tells_it h a.0 x body dep (accepted_honest h f n a.0 a.1) w a.2 (subst (λ (q : List ℕ). has (target_of a.0) q ≡ false) (sym name) a.3)) [
         | inl is ↦ inl (accepted_told (journal h n) a.0 x a.1 is)
         | inr r ↦ inr (a.0, r.0, a.1, r.1, r.2, r.3)

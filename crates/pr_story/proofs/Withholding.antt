@@ -20,7 +20,7 @@ use Rattle.pr_story.specs.declared.entry.Entry.{Entry}
 use Rattle.pr_story.specs.declared.event.Event.{Event}
 use Rattle.pr_story.specs.declared.event.Event.TheVariants.{Accepted}
 use Rattle.pr_story.specs.History.{Accepts}
-use Rattle.pr_story.specs.Knowledge.{WasTold, Knows}
+use Rattle.pr_story.specs.Knowledge.{HeardOf, Knows}
 use Rattle.pr_story.specs.Told.{IsLit, IsDarkBetween}
 use Rattle.pr_story.specs.Turns.{IsOmitted}
 use Rattle.pr_story.specs.Search.{point, IsLitBy, IsUnlit, IsDarkUpTo, IsOmittedIn}
@@ -230,7 +230,7 @@ more_names was one more n so is = (
 pub record AreOmitted (j d : List Entry) (names : List Span) (v w : List ℕ) (set : List Span) : Type 0 where
   pub one : IsSet set
   pub sound : (o : List ℕ) → IsName o → IsTrue (has set o) → IsOmitted j names v w o
-  pub all : (x : WriteRec) → IsName x.name → WasTold d x → Knows j x → has names x.name ≡ false → Between v w x.stamp → IsTrue (has set x.name)
+  pub all : (x : WriteRec) → IsName x.name → HeardOf d x → Knows j x → has names x.name ≡ false → Between v w x.stamp → IsTrue (has set x.name)
 
 pub omitted_none : (j : List Entry) (names : List Span) (v w : List ℕ) → AreOmitted j [] names v w []
 omitted_none j names v w = record { one = tt; sound = λ o name h. absurd (cc); all = λ x name t k out b. absurd t }

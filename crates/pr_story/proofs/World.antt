@@ -15,7 +15,7 @@ use Rattle.pr_inval.specs.Points.{to_of, target_of, CoversPoint, is_invalidation
 use Rattle.pr_story.specs.declared.entry.Entry.{Entry}
 use Rattle.pr_story.specs.History.{NodeEntry, SomeEvent, journal, Writes, Accepts, WasWritten, WasSent, HasAccepted, current_clock}
 use Rattle.pr_story.specs.Told.{IsLit}
-use Rattle.pr_story.specs.Knowledge.{IsOf, TellsOf, WasTold}
+use Rattle.pr_story.specs.Knowledge.{IsOf, TellsOf, HeardOf}
 use Rattle.pr_story.specs.Messages.{IsHonest}
 use Rattle.pr_story.proofs.Basics.{clock_at, clock_is, split, newer_event, older_event, accepted_reached}
 
@@ -48,7 +48,7 @@ told_event (Accepted msg at) x t = inl (msg.kind, refl, t)
 told_event _ x t = absurd t
 
 -- by a message, or its own
-pub told_how : (j : List Entry) (x : WriteRec) → WasTold j x → ((k : Kind) × HasAccepted j k × IsOf k x) ⊎ ((body : List ℕ) × (dep : List ℕ) × WroteIn j x body dep)
+pub told_how : (j : List Entry) (x : WriteRec) → HeardOf j x → ((k : Kind) × HasAccepted j k × IsOf k x) ⊎ ((body : List ℕ) × (dep : List ℕ) × WroteIn j x body dep)
 told_how [] x t = absurd t
 told_how (e ∷ j) x t = elim t [
   | inl now ↦ elim (told_event e.event x now) [
@@ -76,7 +76,7 @@ tells_own : (event : Event) (x : WriteRec) (body dep : List ℕ) → Writes even
 tells_own (Wrote client write bytes after) x body dep w = w.0
 tells_own _ x body dep w = absurd w
 
-pub own_told : (j : List Entry) (x : WriteRec) (body dep : List ℕ) → WroteIn j x body dep → WasTold j x
+pub own_told : (j : List Entry) (x : WriteRec) (body dep : List ℕ) → WroteIn j x body dep → HeardOf j x
 own_told [] x body dep w = absurd w
 own_told (e ∷ j) x body dep w = elim w [ inl now ↦ inl (tells_own e.event x body dep now) | inr old ↦ inr (own_told j x body dep old) ]
 
@@ -84,7 +84,7 @@ tells_accepted : (event : Event) (k : Kind) (x : WriteRec) → Accepts event k �
 tells_accepted (Accepted msg at) k x a i = subst (λ (j : Kind). IsOf j x) (sym a) i
 tells_accepted _ k x a i = absurd a
 
-pub accepted_told : (j : List Entry) (k : Kind) (x : WriteRec) → HasAccepted j k → IsOf k x → WasTold j x
+pub accepted_told : (j : List Entry) (k : Kind) (x : WriteRec) → HasAccepted j k → IsOf k x → HeardOf j x
 accepted_told [] k x a i = absurd a
 accepted_told (e ∷ j) k x a i = elim a [ inl now ↦ inl (tells_accepted e.event k x now i) | inr old ↦ inr (accepted_told j k x old i) ]
 
@@ -106,14 +106,14 @@ module _ (h : List NodeEntry) (f : World h) where
   pub accepted_honest : (n : ℕ) (k : Kind) → HasAccepted (journal h n) k → IsHonest h k
   accepted_honest n k a = let s : (msg : Msg) × WasSent h msg × (msg.kind ≡ k) = f.arrived n k a in subst (λ (j : Kind). IsHonest h j) s.2 (f.honest s.0 s.1)
 
-  pub told_written : (n : ℕ) (x : WriteRec) → WasTold (journal h n) x → (body : List ℕ) × (dep : List ℕ) × WasWritten h x body dep
+  pub told_written : (n : ℕ) (x : WriteRec) → HeardOf (journal h n) x → (body : List ℕ) × (dep : List ℕ) × WasWritten h x body dep
   told_written n x t = elim (told_how (journal h n) x t) [
     | inl a ↦ (honest_write h a.0 x (accepted_honest n a.0 a.1) a.2).1
     | inr w ↦ (w.0, w.1, wrote_written h n x w.0 w.1 w.2)
   ]
 
   -- a node has been told of the writes that it knows of
-  pub told_covered : (n : ℕ) (x : WriteRec) → WasTold (journal h n) x → x.stamp.clock ≤ clock_at h n x.stamp.node
+  pub told_covered : (n : ℕ) (x : WriteRec) → HeardOf (journal h n) x → x.stamp.clock ≤ clock_at h n x.stamp.node
   told_covered n x t = elim (told_how (journal h n) x t) [
     | inl a ↦
         let c : CoversPoint a.0 x.stamp = (honest_write h a.0 x (accepted_honest n a.0 a.1) a.2).0 in
@@ -127,20 +127,20 @@ module _ (h : List NodeEntry) (f : World h) where
   ]
 
   -- a write was told to its own node
-  pub home_told : (x : WriteRec) (body dep : List ℕ) → WasWritten h x body dep → WasTold (journal h x.stamp.node) x
+  pub home_told : (x : WriteRec) (body dep : List ℕ) → WasWritten h x body dep → HeardOf (journal h x.stamp.node) x
   home_told x body dep w =
       let m : (n : ℕ) × WroteIn (journal h n) x body dep = written_wrote h x body dep w in
-      subst (λ (n : ℕ). WasTold (journal h n) x) (f.at_home m.0 x body dep m.1) (own_told (journal h m.0) x body dep m.1)
+      subst (λ (n : ℕ). HeardOf (journal h n) x) (f.at_home m.0 x body dep m.1) (own_told (journal h m.0) x body dep m.1)
 
   -- a write at a lit point was told
-  pub lit_told : (n : ℕ) (x : WriteRec) (body dep : List ℕ) → WasWritten h x body dep → IsLit n (journal h n) x.name x.stamp → WasTold (journal h n) x
+  pub lit_told : (n : ℕ) (x : WriteRec) (body dep : List ℕ) → WasWritten h x body dep → IsLit n (journal h n) x.name x.stamp → HeardOf (journal h n) x
   lit_told n x body dep w l = elim l [
-    | inl own ↦ subst (λ (m : ℕ). WasTold (journal h m) x) own (home_told x body dep w)
+    | inl own ↦ subst (λ (m : ℕ). HeardOf (journal h m) x) own (home_told x body dep w)
     | inr a ↦ accepted_told (journal h n) a.0 x a.1 (honest_only h a.0 x body dep (accepted_honest n a.0 a.1) a.2 w a.3 a.4)
   ]
 
   -- of one stamp there is one write
-  pub told_one : (n m : ℕ) (x y : WriteRec) → WasTold (journal h n) x → WasTold (journal h m) y → x.stamp ≡ y.stamp → x ≡ y
+  pub told_one : (n m : ℕ) (x y : WriteRec) → HeardOf (journal h n) x → HeardOf (journal h m) y → x.stamp ≡ y.stamp → x ≡ y
   told_one n m x y t u e =
       let a : (body : List ℕ) × (dep : List ℕ) × WasWritten h x body dep = told_written n x t in
       let b : (body : List ℕ) × (dep : List ℕ) × WasWritten h y body dep = told_written m y u in

@@ -9,7 +9,7 @@ use Rattle.pr_inval.specs.declared.write_rec.WriteRec.{WriteRec}
 use Rattle.pr_story.specs.declared.entry.Entry.{Entry}
 use Rattle.pr_story.specs.declared.event.Event.{Event}
 use Rattle.pr_story.specs.declared.event.Event.TheVariants.{Wrote, Accepted}
-use Rattle.pr_story.specs.Knowledge.{IsOf, TellsOf, WasTold, Knows}
+use Rattle.pr_story.specs.Knowledge.{IsOf, TellsOf, HeardOf, Knows}
 use Rattle.pr_story.specs.Turns.{IsWriteToSend}
 use Rattle.pr_story.specs.Search.{IsKnownAt, IsLesserWrite, IsNextOf}
 use Rattle.pr_story.proofs.Known.{known_told}
@@ -39,14 +39,14 @@ known_is j told x (Some w) at is k = ap (λ (y : WriteRec). Some y) (knows_one j
 pub told_known_one : (j : List Entry) (told write x : WriteRec) → write.stamp ≡ told.stamp → Knows j write → x ≡ told → Knows j x → x ≡ write
 told_known_one j told write x e kw is k = knows_one j x write k kw (ap (λ (w : WriteRec). w.stamp) is ∙ sym e)
 
-pub told_unknown : (j : List Entry) (told x : WriteRec) → ((y : WriteRec) → WasTold j y → y.stamp ≢ told.stamp) → x ≡ told → Knows j x → ⊥
+pub told_unknown : (j : List Entry) (told x : WriteRec) → ((y : WriteRec) → HeardOf j y → y.stamp ≢ told.stamp) → x ≡ told → Knows j x → ⊥
 told_unknown j told x none is k = none x (known_told j x k) (ap (λ (w : WriteRec). w.stamp) is)
 
 -- ---- the least of those that some entries tell of
 
 abbrev pub IsNextAmong : List Entry → List Entry → List Span → List ℕ → Option WriteRec → Type 0
-IsNextAmong j d names p None = (x : WriteRec) → WasTold d x → ¬ IsWriteToSend j names p x
-IsNextAmong j d names p (Some b) = IsWriteToSend j names p b × ((x : WriteRec) → WasTold d x → IsWriteToSend j names p x → ¬ Before x.stamp b.stamp)
+IsNextAmong j d names p None = (x : WriteRec) → HeardOf d x → ¬ IsWriteToSend j names p x
+IsNextAmong j d names p (Some b) = IsWriteToSend j names p b × ((x : WriteRec) → HeardOf d x → IsWriteToSend j names p x → ¬ Before x.stamp b.stamp)
 
 itself : (s t : Point) → s ≡ t → Before s t → ⊥
 itself s t e b = let bad : Before t t = subst (λ (q : Point). Before q t) e b in grind arith

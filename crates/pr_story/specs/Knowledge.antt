@@ -33,16 +33,16 @@ TellsOf (Wrote client write body after) x = write ≡ x
 TellsOf (Accepted msg at) x = IsOf msg.kind x
 TellsOf _ x = ⊥
 
--- the node was told of the write
-abbrev pub WasTold : List Entry → WriteRec → Type 0
-WasTold j x = SomeEvent (λ event. TellsOf event x) j
+-- the node heard of the write
+abbrev pub HeardOf : List Entry → WriteRec → Type 0
+HeardOf j x = SomeEvent (λ event. TellsOf event x) j
 
--- the node knows the write: it was told of it before any other write with its stamp
+-- the node knows the write: it heard of it before any other write with its stamp
 abbrev pub Knows : List Entry → WriteRec → Type 0
 Knows [] x = ⊥
 Knows (e ∷ j) x =
     Knows j x
-    ⊎ (TellsOf e.event x × ((y : WriteRec) → WasTold j y → y.stamp ≡ x.stamp → y ≡ x))
+    ⊎ (TellsOf e.event x × ((y : WriteRec) → HeardOf j y → y.stamp ≡ x.stamp → y ≡ x))
 
 -- ---- newest stamps
 

@@ -1,3 +1,4 @@
+-- what promises are made of
 pub mod History
 pub mod Told
 pub mod Knowledge
@@ -7,22 +8,24 @@ pub mod Turns
 pub mod Ranges
 pub mod Lawful
 pub mod Sessions
+pub mod Counts
+pub mod Commands
+pub mod Scripts
+-- the laws: their statements, and what these are made of
+pub mod Statements
 pub mod Laws
 pub mod Merging
 pub mod Economy
 pub mod Lines
-pub mod Commands
-pub mod Scripts
-pub mod Search
-pub mod Withheld
-pub mod Sending
-pub mod Marking
 pub mod Places
 pub mod Reading
-pub mod Counts
 pub mod Settling
 pub mod Remaining
 pub mod OneThread
 pub mod Phases
-pub mod Statements
 pub mod Worked
+-- what the contracts of the plain program say besides
+pub mod Search
+pub mod Withheld
+pub mod Sending
+pub mod Marking

@@ -17,7 +17,7 @@ use Rattle.pr_story.specs.declared.event.Event.{Event}
 use Rattle.pr_story.specs.declared.plain.named.Named.{Named}
 use Rattle.pr_story.specs.Turns.{IsWriteToSend, IsNextWrite, IsOmitted}
 use Rattle.pr_story.specs.Told.{IsGreatestUpTo, IsLit, IsPrecise, IsTold, IsUntold}
-use Rattle.pr_story.specs.Knowledge.{TellsOf, WasTold, Knows, NamesStamp, gone_in_rows, gone_told, IsNewestKnown, KnowsGone}
+use Rattle.pr_story.specs.Knowledge.{TellsOf, HeardOf, Knows, NamesStamp, gone_in_rows, gone_told, IsNewestKnown, KnowsGone}
 
 abbrev pub point : ℕ → ℕ → Point
 point c n = record { clock = c; node = n }
@@ -103,7 +103,7 @@ IsWriteIn event (Some w) = TellsOf event w × ((x : WriteRec) → TellsOf event 
 
 -- the known write with this stamp
 abbrev pub IsKnownAt : List Entry → Point → Option WriteRec → Type 0
-IsKnownAt j s None = (x : WriteRec) → WasTold j x → x.stamp ≢ s
+IsKnownAt j s None = (x : WriteRec) → HeardOf j x → x.stamp ≢ s
 IsKnownAt j s (Some w) = Knows j w × (w.stamp ≡ s)
 
 -- the one of two writes with the lesser stamp
