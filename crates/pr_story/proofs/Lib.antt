@@ -46,6 +46,8 @@ pub mod SettlingTells
 pub mod Nameless
 pub mod InTime
 pub mod Remaining
+pub mod JobAfterJob
 pub mod OneThread
 pub mod Phases
+pub mod FirstPath
 pub mod Worked
