@@ -9,3 +9,4 @@ pub mod Messages
 pub mod Sentences
 pub mod Histories
 pub mod Runs
+pub mod Apart

@@ -17,6 +17,7 @@ use Rattle.pr_story.specs.declared.event.Event.TheVariants.{Answered, Behind}
 use Rattle.pr_story.specs.declared.reply.Reply.{Reply}
 use Rattle.pr_story.specs.declared.reply.Reply.TheVariants as replies
 use Rattle.pr_story.specs.History.{NodeEntry}
+use Rattle.pr_story.specs.Phases.{IsBegunAs}
 use Rattle.pr_story.specs.Scripts.{Line, Order, LineGives, IsOfScript, IsBegunOf, attached_after}
 use Rattle.pr_text.specs.Endings.{ok_line}
 use Rattle.pr_text.specs.Heads.{heads_text}
@@ -36,6 +37,10 @@ IsHistoryOf order s h = IsOfScript order (streams_of s.decls.list) (lines_of s.c
 -- it is one of a run of the script that ended at some place
 abbrev pub HasBegun : Order → Script → List NodeEntry → Type 0
 HasBegun order s h = IsBegunOf order (streams_of s.decls.list) (lines_of s.commands) h
+
+-- the same, where these jobs of the phase at its end, by number, are known to be whole
+abbrev pub HasBegunAs : (ℕ → Bool) → Order → Script → List NodeEntry → Type 0
+HasBegunAs whole order s h = IsBegunAs whole order (streams_of s.decls.list) (lines_of s.commands) h
 
 -- ---- expectations
 
