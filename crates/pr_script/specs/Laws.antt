@@ -2,6 +2,7 @@
 use Rattle.std.specs.Prelude.{◌≡◌, ℕ, List, Result, Ok, map}
 use Rattle.pr_script.specs.declared.command.Command.{Command}
 use Rattle.pr_script.specs.declared.script.Script.{Script}
+use Rattle.pr_script.specs.Good.{IsGood}
 use Rattle.pr_script.specs.Labels.{AreLabels}
 use Rattle.pr_script.specs.Reading.{Means}
 use Rattle.pr_script.specs.Printing.{script_text}
@@ -30,3 +31,7 @@ ReadsBack = (bytes : List ℕ) (s : Script) → Means bytes (Ok s) → (t : Scri
 -- the labels of an accepted script tell its nodes, clients and streams apart
 abbrev pub HaveLabels : Type 0
 HaveLabels = (bytes : List ℕ) (s : Script) → Means bytes (Ok s) → AreLabels s.decls.list
+
+-- an accepted script is good for a run
+abbrev pub AreGoodScripts : Type 0
+AreGoodScripts = (bytes : List ℕ) (s : Script) → Means bytes (Ok s) → IsGood s

@@ -39,8 +39,8 @@ pub use fault::ScriptFault;
 pub use kind::Kind;
 pub use labels::{is_kind, label_at, label_of};
 pub use law::{
-    labels_tell_declarations_apart, printed_scripts_read_back, scripts_have_one_meaning,
-    sets_share_a_name_where_intervals_overlap,
+    accepted_scripts_are_good, labels_tell_declarations_apart, printed_scripts_read_back,
+    scripts_have_one_meaning, sets_share_a_name_where_intervals_overlap,
 };
 pub use printer::{print, print_decls};
 pub use reader::{Reader, read};

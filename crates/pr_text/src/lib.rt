@@ -21,4 +21,4 @@ mod vector;
 pub use ending::{bad, error, lied, ok, unmet};
 pub use event::line;
 pub use head::heads;
-pub use law::lines_tell_the_history;
+pub use law::{lines_tell_the_history, phases_have_apart_jobs, runs_are_histories};
