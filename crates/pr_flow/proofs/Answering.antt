@@ -15,11 +15,11 @@ use Rattle.pr_story.specs.declared.event.Event.TheVariants.{Down}
 use Rattle.pr_story.specs.Turns.{event_of}
 use Rattle.pr_wire.specs.Spelling.{spelling}
 use Rattle.pr_wire.specs.declared.format.Format.TheVariants.{Two}
-use Rattle.pr_wires.specs.Calls.{Grows}
+use Rattle.pr_wires.specs.Calls.{Grows, WireState}
 use Rattle.pr_flow.specs.declared.flow_end.FlowEnd.{FlowEnd}
 use Rattle.pr_flow.specs.Calls.{Call, HasEnded, HasNotTurned, HasStepped, HasTurned, IsSending, Turning, entry_of}
 use Rattle.pr_flow.specs.Flows.{Sides, SomeFlow, TurnFlows}
-use Rattle.pr_flow.specs.Moving.{IsCut, MovesPart, WireState}
+use Rattle.pr_flow.specs.Moving.{IsCut, MovesPart}
 use Rattle.pr_flow.specs.Taking.{GoesDown, IsGap, Takes}
 use Rattle.pr_flow.proofs.Turns.{accepted_leads, cut_ends, cut_refused, gap_ends, gap_refused, memory_ends, taking_refused, turn_refused}
 

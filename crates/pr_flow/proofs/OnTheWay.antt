@@ -3,6 +3,7 @@ use Rattle.std.proofs.Common.{◌≡◌, ◌≤◌, ◌+◌, ℕ, List, ◌++◌
 use Rattle.std.proofs.lemmas.List.{length-append, take-append-drop, take-append-le}
 use Rattle.std.specs.Io.{StartsWith}
 use Rattle.std.specs.Result.{IfOk, IsErr}
+use Rattle.pr_wires.specs.Calls.{WireState}
 use Rattle.pr_ports.specs.Faults.{HasRisen}
 use Rattle.pr_inval.specs.declared.msg.Msg.{Msg}
 use Rattle.pr_story.specs.declared.cause.Cause.{Cause}
@@ -12,7 +13,7 @@ use Rattle.pr_wire.specs.Feeding.{Fed, pushed}
 use Rattle.pr_wire.specs.declared.format.Format.TheVariants.{Two}
 use Rattle.pr_flow.specs.declared.carrying.Carried.{Carried}
 use Rattle.pr_flow.specs.declared.carrying.Carried.TheVariants as carried
-use Rattle.pr_flow.specs.Moving.{IsCarried, IsCut, IsLie, Moves, MovesPart, WireState}
+use Rattle.pr_flow.specs.Moving.{IsCarried, IsCut, IsLie, Moves, MovesPart}
 use Rattle.pr_flow.proofs.Fronts.{starts_behind, starts_longer, starts_not_behind, starts_with}
 use Rattle.pr_flow.proofs.Growing.{moves_more, told_on}
 

@@ -1,5 +1,6 @@
 -- A flow, by its turns.
 use Rattle.std.proofs.Common.{◌≡◌, ◌-◌, ℕ, List, Option, Some, None, Result, Ok, Err, refl, sym, subst, ◌∙◌, arith}
+use Rattle.pr_wires.specs.Calls.{WireState}
 use Rattle.pr_inval.specs.declared.node_fault.NodeFault.{NodeFault}
 use Rattle.pr_inval.specs.Standing.{SessionMeaning}
 use Rattle.pr_story.specs.declared.entry.Entry.{Entry}
@@ -8,7 +9,6 @@ use Rattle.pr_flow.specs.declared.flow_end.FlowEnd.TheVariants as ends
 use Rattle.pr_flow.specs.Calls.{Call}
 use Rattle.pr_flow.specs.Ending.{GoesOn, TurnEnds}
 use Rattle.pr_flow.specs.Flows.{Flows, Leads, Sides, SomeFlow, TurnFlows, events_of}
-use Rattle.pr_flow.specs.Moving.{WireState}
 use Rattle.pr_flow.proofs.Scripted.{is_of_script}
 use Rattle.pr_flow.proofs.Turns.{done_ends, leads_more}
 

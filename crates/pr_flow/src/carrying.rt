@@ -1,5 +1,5 @@
 // A message goes over a wire.
-ghost use Rattle.pr_flow.specs.Moving.{IsCarried, IsFrameOf, IsLie, IsNoLieOrCut, state_of};
+ghost use Rattle.pr_flow.specs.Moving.{IsCarried, IsFrameOf, IsLie, IsNoLieOrCut};
 ghost use Rattle.pr_wire.specs.Messages.{IsMessage};
 ghost use Rattle.pr_wire.specs.Spelling.{spelling};
 ghost use Rattle.pr_wire.specs.declared.format.Format.{Format};
@@ -25,9 +25,9 @@ pub enum Carried {
 /// memory for what it decodes, and for the encoding only where other bytes are taken.
 pub fn carry<W: Wire>(alloc: Global, msg: &Msg, wire: &mut W) -> Result<Carried, NoMemory>
     requires message { IsMessage msg.now }
-    requires under { W.under wire.old ≡ 0 }
-    ensures moved { IsCarried (state_of W.faults W.ends W.under W.given W.taken W.held W.is_sound wire.old) (state_of W.faults W.ends W.under W.given W.taken W.held W.is_sound wire.new) msg.now result }
-    ensures sound { IsTrue (W.is_sound wire.old) → IsNoLieOrCut result }
+    requires under { (W.state wire.old).under ≡ 0 }
+    ensures moved { IsCarried (W.state wire.old) (W.state wire.new) msg.now result }
+    ensures sound { IsTrue (W.state wire.old).sound → IsNoLieOrCut result }
 {
     let mut pieces = Pieces::new(msg);
     let mut feed = Feed::new(alloc, u64::MAX);

@@ -1,5 +1,6 @@
 -- What the calls of a maker of wires leave.
 use Rattle.std.specs.Prelude.{◌≡◌, ℕ, Bool, IsTrue, false, List, [], ◌∷◌, ◌++◌, Option, Some, None, Result, Ok, Err}
+use Rattle.pr_wires.specs.Calls.{WireState}
 
 -- one more where a wire was given
 abbrev pub wires_given : {W E : Type 0} → Result W E → ℕ
@@ -7,9 +8,9 @@ wires_given (Ok w) = 1
 wires_given (Err e) = 0
 
 -- a connection that is sound is given, and what is given for it is sound
-abbrev pub AnswersBySound : {W E : Type 0} → (W → Bool) → Result W E → Bool → Type 0
-AnswersBySound is_sound (Ok w) sound = IsTrue sound → IsTrue (is_sound w)
-AnswersBySound is_sound (Err e) sound = sound ≡ false
+abbrev pub AnswersBySound : {W E : Type 0} → (W → WireState) → Result W E → Bool → Type 0
+AnswersBySound state (Ok w) sound = IsTrue sound → IsTrue (state w).sound
+AnswersBySound state (Err e) sound = sound ≡ false
 
 -- where the lists of the closed wires are told, one more is told by the wire, and stands last
 abbrev pub Carries : Option (List (List ℕ)) → Option (List (List ℕ)) → Option (List ℕ) → Type 0

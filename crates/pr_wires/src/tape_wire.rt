@@ -48,19 +48,7 @@ impl TapeWire {
 }
 
 impl Wire for TapeWire {
-    ghost faults = { λ w. w.faults };
-
-    ghost ends = { λ w. 0 };
-
-    ghost under = { λ w. length w.given - w.at };
-
-    ghost given = { λ w. Some w.given };
-
-    ghost taken = { λ w. Some (take w.at w.given) };
-
-    ghost held = { λ w. Some (drop w.at w.given) };
-
-    ghost is_sound = { λ w. false };
+    ghost state = { λ w. record { faults = w.faults; ends = 0; under = length w.given - w.at; given = Some w.given; taken = Some (take w.at w.given); held = Some (drop w.at w.given); sound = false } };
 
     fn put(&mut self, piece: &[u8]) -> Result<usize, Failed> {
         if self.room < self.bytes.len() || self.room - self.bytes.len() < piece.len() {

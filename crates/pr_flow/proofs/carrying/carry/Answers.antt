@@ -4,7 +4,7 @@ use Rattle.pr_wire.specs.Pieces.{rest_of}
 use Rattle.std.specs.Result.{IfOk}
 use Rattle.pr_wire.specs.Spelling.{spelling}
 use Rattle.pr_wire.specs.declared.format.Format.TheVariants.{Two}
-use Rattle.pr_flow.specs.Moving.{IsLie, Moves, state_of}
+use Rattle.pr_flow.specs.Moving.{IsLie, Moves}
 use Rattle.pr_flow.proofs.Growing.{moves_more}
 use Rattle.pr_flow.proofs.OnTheWay.{count_more, cut_from, cut_here, front_bytes, no_memory, other_bytes, other_here, piece_more, pushed_limit, pushed_rest, refused_here}
 use Rattle.pr_flow.proofs.carrying.carry.Goals as goal
@@ -12,17 +12,17 @@ use Rattle.pr_flow.proofs.carrying.carry.Goals as goal
 pub returns-in_err-decoded-clause-moved : goal.returns-in_err-decoded-clause-moved
 returns-in_err-decoded-clause-moved g c =
     let w = g.W.Wire in
-    let a = state_of w.faults w.ends w.under w.given w.taken w.held w.is_sound c.args.wire.now in
-    let b = state_of w.faults w.ends w.under w.given w.taken w.held w.is_sound c.loop-pieces.wire in
+    let a = w.state c.args.wire.now in
+    let b = w.state c.loop-pieces.wire in
     let i = c.loop-pieces.invariant in
     no_memory a b c.args.msg.now c.loop-pieces.feed.rest (rest_of c.loop-pieces.pieces) c.from_residual.result c.from_residual.ensures.0 i.all i.moved
 
 pub returns-in_err-push-in-Whole-clause-moved : goal.returns-in_err-push-in-Whole-clause-moved
 returns-in_err-push-in-Whole-clause-moved g c =
     let w = g.W.Wire in
-    let a = state_of w.faults w.ends w.under w.given w.taken w.held w.is_sound c.args.wire.now in
-    let b = state_of w.faults w.ends w.under w.given w.taken w.held w.is_sound c.loop-pieces.wire in
-    let d = state_of w.faults w.ends w.under w.given w.taken w.held w.is_sound c.pass.new.wire in
+    let a = w.state c.args.wire.now in
+    let b = w.state c.loop-pieces.wire in
+    let d = w.state c.pass.new.wire in
     let i = c.loop-pieces.invariant in
     let r = c.from_residual-in_err-push-in-Whole in
     refused_here a b d c.args.msg.now c.loop-pieces.feed.rest (take c.next-len.result c.next-len.new.buf) (rest_of c.loop-pieces.pieces) c.next-len.result c.next-len.ensures.bytes i.all i.moved r.result r.ensures.0 c.in-Whole.ensures.moved.0
@@ -30,9 +30,9 @@ returns-in_err-push-in-Whole-clause-moved g c =
 pub returns-in-Cut-clause-moved : goal.returns-in-Cut-clause-moved
 returns-in-Cut-clause-moved g c =
     let w = g.W.Wire in
-    let a = state_of w.faults w.ends w.under w.given w.taken w.held w.is_sound c.args.wire.now in
-    let b = state_of w.faults w.ends w.under w.given w.taken w.held w.is_sound c.loop-pieces.wire in
-    let d = state_of w.faults w.ends w.under w.given w.taken w.held w.is_sound c.pass.new.wire in
+    let a = w.state c.args.wire.now in
+    let b = w.state c.loop-pieces.wire in
+    let d = w.state c.pass.new.wire in
     let i = c.loop-pieces.invariant in
     let k = c.in-Cut.ensures.moved in (
       cut_from c.in-Cut.cause a b d i.moved.faults i.moved.ends k.0,
@@ -42,9 +42,9 @@ returns-in-Cut-clause-moved g c =
 pub returns-in-Lied-clause-moved : goal.returns-in-Lied-clause-moved
 returns-in-Lied-clause-moved g c =
     let w = g.W.Wire in
-    let a = state_of w.faults w.ends w.under w.given w.taken w.held w.is_sound c.args.wire.now in
-    let b = state_of w.faults w.ends w.under w.given w.taken w.held w.is_sound c.loop-pieces.wire in
-    let d = state_of w.faults w.ends w.under w.given w.taken w.held w.is_sound c.pass.new.wire in
+    let a = w.state c.args.wire.now in
+    let b = w.state c.loop-pieces.wire in
+    let d = w.state c.pass.new.wire in
     let i = c.loop-pieces.invariant in
     let k = c.in-Lied.ensures.moved in
     let n = c.in-Lied.len in
@@ -57,9 +57,9 @@ returns-in-Lied-clause-moved g c =
 pub loop-pieces-preserved : goal.loop-pieces-preserved
 loop-pieces-preserved g c =
     let w = g.W.Wire in
-    let a = state_of w.faults w.ends w.under w.given w.taken w.held w.is_sound c.args.wire.now in
-    let b = state_of w.faults w.ends w.under w.given w.taken w.held w.is_sound c.loop-pieces.wire in
-    let d = state_of w.faults w.ends w.under w.given w.taken w.held w.is_sound c.pass.new.wire in
+    let a = w.state c.args.wire.now in
+    let b = w.state c.loop-pieces.wire in
+    let d = w.state c.pass.new.wire in
     let i = c.loop-pieces.invariant in
     let k = c.in-Whole.ensures.moved in
     let len = c.next-len.result in
