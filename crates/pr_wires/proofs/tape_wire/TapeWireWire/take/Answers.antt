@@ -4,8 +4,8 @@ use Rattle.pr_wires.specs.Made.{Tape}
 use Rattle.pr_wires.proofs.Tapes.{part_left, part_taken}
 use Rattle.pr_wires.proofs.tape_wire.TapeWireWire.take.Goals as goal
 
-pub returns : goal.returns
-returns c =
+pub returns-clause-taken : goal.returns-clause-taken
+returns-clause-taken c =
     let at = c.self.inside.at in
     let len = length c.args.buf.now in
     let part = c.copy_from_slice.new.self in
