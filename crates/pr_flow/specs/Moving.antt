@@ -6,8 +6,6 @@ use Rattle.pr_inval.specs.declared.msg.Msg.{Msg}
 use Rattle.pr_story.specs.declared.cause.Cause.{Cause}
 use Rattle.pr_story.specs.declared.cause.Cause.TheVariants as causes
 use Rattle.pr_wires.specs.Calls.{Grows, WireState}
-use Rattle.pr_wire.specs.Feeding.{Fed}
-use Rattle.pr_wire.specs.Messages.{HasSpelling}
 use Rattle.pr_wire.specs.Spelling.{spelling}
 use Rattle.pr_wire.specs.declared.format.Format.TheVariants.{Two}
 use Rattle.pr_flow.specs.declared.passing.Passed.{Passed}
@@ -91,9 +89,3 @@ IsNoLieOrCut (Err fault) = Unit {0}
 abbrev pub IsLie : Msg → List ℕ → Carried → Type 0
 IsLie m bytes (carried.Lied sent got) = (sent ≡ spelling Two m) × (got ≡ bytes) × (length sent < 2 ^ 64)
 IsLie m bytes _ = ⊥
-
--- a feed of any frame that holds just the frame of the message
-pub record IsFrameOf (feed : Fed) (m : Msg) : Type 0 where
-  pub spelled : HasSpelling Two m
-  pub limit : feed.limit ≡ 18446744073709551615
-  pub frame : feed.rest ≡ spelling Two m
