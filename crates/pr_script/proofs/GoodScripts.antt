@@ -1,7 +1,7 @@
 -- An accepted script is good: line by line, with what is known of the lines before.
-use Rattle.std.proofs.Common.{◌≡◌, ℕ, ◌+◌, ◌<◌, ◌≤◌, Bool, true, false, ◌||◌, cond, List, [], ◌∷◌, ◌++◌, length, map, Option, Some, None, Result, Ok, Err, refl, sym, ap, subst, ◌∙◌, append_assoc, arith, length-append, IfOk}
-use Rattle.std.specs.Prelude.{◌≢◌, nat_eq, nat_lt, is_some, IsTrue, AllPairs, ◌==◌}
-use Rattle.std.specs.List.{AllByRecursion, list_any, fold, flat_map, filter}
+use Rattle.std.proofs.Common.{◌≡◌, ℕ, ◌+◌, ◌<◌, ◌≤◌, Bool, true, false, ◌||◌, cond, List, [], ◌∷◌, ◌++◌, length, Option, Some, None, Result, Ok, Err, refl, sym, ap, subst, ◌∙◌, append_assoc, arith, length-append, IfOk}
+use Rattle.std.specs.Prelude.{◌≢◌, nat_eq, is_some, AllPairs, ◌==◌}
+use Rattle.std.specs.List.{AllByRecursion, list_any, fold, flat_map}
 use Rattle.std.proofs.lemmas.List.{append-nil, map-append}
 use Rattle.std.proofs.lemmas.List.Sums.{fold-append}
 use Rattle.std.proofs.lemmas.List.Concat.{flat_map-append}
@@ -21,12 +21,12 @@ use Rattle.pr_script.specs.declared.kind.Kind.TheVariants as kinds
 use Rattle.pr_script.specs.declared.known.Known.{Known}
 use Rattle.pr_script.specs.declared.script.Script.{Script}
 use Rattle.pr_script.specs.Answers.{Answers}
-use Rattle.pr_script.specs.Good.{IsNumberOf, IsGoodDecl, AreGoodDecls, IsGoodCommand, IsGoodJobLine, IsGoodPhase, AreGoodSteps, IsGood}
-use Rattle.pr_script.specs.Known.{has_number, with_number, turns_after, is_read, attached_after, phase_after, clients_after, flows_after, known_after}
+use Rattle.pr_script.specs.Good.{IsGoodDecl, IsGoodCommand, IsGoodJobLine, IsGoodPhase, AreGoodSteps, IsGood}
+use Rattle.pr_script.specs.Known.{has_number, with_number, turns_after, is_read, attached_after, phase_after, known_after}
 use Rattle.pr_script.specs.Labels.{AreLabels, count_of, is_kind, labels_of}
 use Rattle.pr_script.specs.Laws.{AreGoodScripts}
 use Rattle.pr_script.specs.Lines.{line_item}
-use Rattle.pr_script.specs.Reading.{Sofar, after, all_lines, is_skipped, next, numbered, passed, script_of, start, told}
+use Rattle.pr_script.specs.Reading.{Sofar, after, all_lines, is_skipped, next, numbered, passed, start, told}
 use Rattle.pr_script.specs.Steps.{Numbered, Step, Alone, Phase, is_phase, is_end, steps_from, steps_of, unnumbered, step_commands, Owner, OfClient, OfStream, is_owner, owner_of, has_owner, with_owner, owners_of, flow_of, flows_in, turns_in}
 use Rattle.pr_script.proofs.Accepted.{added, have_labels, labels_more}
 use Rattle.pr_script.proofs.GoodLines.{IsInJob, IsTaken, IsGoodItem, item_good}

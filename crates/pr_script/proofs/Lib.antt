@@ -21,3 +21,4 @@ pub mod Accepted
 pub mod GoodLines
 pub mod GoodScripts
 pub mod Spelled
+pub mod Beginnings

@@ -1,5 +1,5 @@
 -- A script's commands as its steps: a command alone, or a phase with what stands between its `phase` and its `end`.
-use Rattle.std.specs.Prelude.{ℕ, ◌+◌, List, [], ◌∷◌, ◌++◌, Option, Some, None, Bool, true, false, map, nat_eq, if◌then◌else◌}
+use Rattle.std.specs.Prelude.{ℕ, List, [], ◌∷◌, ◌++◌, Option, Some, None, Bool, true, false, map, nat_eq, if◌then◌else◌}
 use Rattle.std.specs.List.{fold, list_any, flat_map}
 use Rattle.pr_script.specs.declared.command.Command.{Command}
 use Rattle.pr_script.specs.declared.command.Command.TheVariants as commands

@@ -1,28 +1,27 @@
 -- The jobs of a phase are apart: each has a client or a stream of its own.
-use Rattle.std.proofs.Common.{◌≡◌, ℕ, suc, ◌+◌, Bool, true, false, not, ◌||◌, cond, List, [], ◌∷◌, ◌++◌, length, map, Option, Some, None, refl, sym, ap, subst, ◌∙◌, inl, inr, append_assoc, arith, length-append}
+use Rattle.std.proofs.Common.{◌≡◌, ℕ, ◌+◌, Bool, true, false, not, ◌||◌, cond, List, [], ◌∷◌, ◌++◌, length, map, Option, Some, None, refl, sym, ap, subst, ◌∙◌, inl, inr, append_assoc, arith, length-append}
 use Rattle.std.specs.Prelude.{◌⊎◌, nat_eq, ◌==◌, IsTrue, filter, reverse}
-use Rattle.std.specs.List.{AllByRecursion, list_any, fold, flat_map, position_or_len}
+use Rattle.std.specs.List.{AllByRecursion, fold, flat_map, position_or_len}
 use Rattle.std.proofs.lemmas.Bool.Decides.{nat_tests}
 use Rattle.std.proofs.lemmas.List.{reverse-append, reverse-reverse, append-nil}
 use Rattle.pr_script.specs.declared.command.Command.{Command}
 use Rattle.pr_script.specs.declared.command.Command.TheVariants as commands
 use Rattle.pr_script.specs.declared.decl.Decl.{Decl}
-use Rattle.pr_script.specs.declared.script.Script.{Script}
-use Rattle.pr_script.specs.Good.{IsGood, IsGoodJobLine, IsGoodPhase, AreGoodSteps}
-use Rattle.pr_script.specs.Known.{has_number, with_number, without_number, attached_after, is_read}
-use Rattle.pr_script.specs.Steps.{Numbered, Step, Alone, Phase, Owner, OfClient, OfStream, is_owner, owner_of, has_owner, with_owner, owners_of, steps_of}
+use Rattle.pr_script.specs.Good.{IsGoodJobLine, IsGoodPhase, AreGoodSteps}
+use Rattle.pr_script.specs.Known.{has_number, without_number, attached_after, is_read}
+use Rattle.pr_script.specs.Steps.{Numbered, Step, Alone, Phase, Owner, OfClient, OfStream, is_owner, owner_of, has_owner, with_owner, owners_of}
 use Rattle.pr_script.proofs.GoodScripts.{any_more}
 use Rattle.pr_story.specs.Commands as story
 use Rattle.pr_story.specs.declared.event.Event.{Event}
 use Rattle.pr_story.specs.declared.event.Event.TheVariants.{Attached}
-use Rattle.pr_story.specs.History.{NodeEntry, entries}
+use Rattle.pr_story.specs.History.{NodeEntry}
 use Rattle.pr_story.specs.Phases.{AreCommandsOf, AreApartJobs}
 use Rattle.pr_story.specs.Scripts as scripts
 use Rattle.pr_story.specs.Scripts.{Order, LineGives, AreOfLines}
 use Rattle.pr_story.specs.Turns.{Attaches, IsAttached}
 use Rattle.pr_text.specs.Histories.{streams_of}
 use Rattle.pr_text.specs.Laws.{PhasesAreApart, ScriptsHaveApartJobs}
-use Rattle.pr_text.specs.Steps.{line_of, single_of, is_owned_by, lines_by, job_of, jobs_of, client_job, stream_job, step_line}
+use Rattle.pr_text.specs.Steps.{line_of, single_of, is_owned_by, lines_by, job_of, client_job, stream_job, step_line}
 
 -- ---- owners
 

@@ -1,5 +1,5 @@
 -- What a script's steps are in its history: each command's line, and each phase's jobs.
-use Rattle.std.specs.Prelude.{ℕ, List, [], ◌∷◌, map, nat_eq, cond, filter, Bool, true, false, Option, Some, None}
+use Rattle.std.specs.Prelude.{ℕ, List, [], ◌∷◌, map, filter, Bool, true, false, Option, Some, None}
 use Rattle.std.specs.List.{flat_map, position_or_len}
 use Rattle.pr_script.specs.declared.command.Command.{Command}
 use Rattle.pr_script.specs.declared.command.Command.TheVariants as commands
