@@ -38,8 +38,8 @@ use std::alloc::Global;
 use std::marker::Model;
 
 /// One node of a replicated store. Each call that takes a caller's number makes exactly one entry of its journal, and
-/// nothing else of it is seen. After want of memory it is spent: its journal stays, and each later such call is
-/// refused.
+/// nothing else of it is seen. After want of memory it is spent: its journal and its sets stay, and each later such call
+/// is refused.
 #[derive(Drop)]
 pub struct Node {
     alloc: Global,
