@@ -18,7 +18,7 @@ use Rattle.pr_node.specs.Ties.{IsTied}
 use Rattle.std.proofs.lemmas.List.Elements.{Contains-append_left, Contains-append_right}
 use Rattle.pr_story.proofs.NewestFirst.{with_next, with_whole}
 use Rattle.pr_story.proofs.Sorted.{is_first}
-use Rattle.pr_wire.specs.Messages.{IsKind}
+use Rattle.pr_inval.specs.Messages.{IsKind}
 use Rattle.pr_node.proofs.Logs.{dark_log}
 use Rattle.pr_node.proofs.Points.{covered_gaps}
 use Rattle.pr_node.proofs.Held.{body_step, settled_or}

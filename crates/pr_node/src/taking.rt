@@ -3,7 +3,7 @@ ghost use Rattle.pr_inval.specs.Points.{from_of};
 ghost use Rattle.pr_inval.specs.declared.kind.Kind.TheVariants.{Body, Checkpoint, Imprecise, Precise};
 ghost use Rattle.pr_node.specs.Taking.{AreSettled, HasTaken, IsBodyTaken, IsGap, IsLate};
 ghost use Rattle.pr_vectors.specs.Vector.{Le};
-ghost use Rattle.pr_wire.specs.Messages.{IsKind};
+ghost use Rattle.pr_inval.specs.Messages.{IsKind};
 ghost use Rattle.std.specs.Prelude.{◌≡◌, ◌↔◌, IsTrue, OnOk};
 
 use crate::Stores;
