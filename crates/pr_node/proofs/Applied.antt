@@ -18,7 +18,7 @@ use Rattle.pr_node.specs.Taking.{AreSettled}
 use Rattle.pr_node.specs.Ties.{IsTied}
 use Rattle.std.proofs.lemmas.List.Elements.{Contains-append_left, Contains-push, Contains-push_cases}
 use Rattle.pr_story.proofs.NewestFirst.{with_next, with_whole}
-use Rattle.pr_wire.specs.Messages.{IsKind}
+use Rattle.pr_inval.specs.Messages.{IsKind}
 use Rattle.pr_node.proofs.Logs.{dark_log}
 use Rattle.pr_node.proofs.Points.{covered_gaps}
 use Rattle.pr_node.proofs.Held.{body_step, settled_or}

@@ -20,7 +20,7 @@ use Rattle.pr_story.proofs.Known.{Decides-is_this, same_point}
 use Rattle.pr_node.specs.declared.stores.Stores.{Stores}
 use Rattle.pr_node.specs.Taking.{IsBodyTaken, IsLate}
 use Rattle.pr_node.specs.Ties.{IsTied, IsLogOf, IsGapsOf, IsMarksOf, named}
-use Rattle.pr_wire.specs.Messages.{IsKind}
+use Rattle.pr_inval.specs.Messages.{IsKind}
 use Rattle.pr_node.proofs.Logs.{same_log}
 use Rattle.pr_node.proofs.Points.{same_gaps}
 use Rattle.pr_node.proofs.Held.{body_step}

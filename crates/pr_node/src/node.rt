@@ -11,7 +11,7 @@ ghost use Rattle.pr_node.specs.Ties.{AreApart};
 ghost use Rattle.pr_story.specs.History.{current_vector};
 ghost use Rattle.pr_story.specs.declared.event.Event.TheVariants.{Conflicts, Cut, Dropped};
 ghost use Rattle.pr_vectors.specs.Vector.{IsVector};
-ghost use Rattle.pr_wire.specs.Messages.{IsMessage};
+ghost use Rattle.pr_inval.specs.Messages.{IsMessage};
 ghost use Rattle.std.specs.Prelude.{◌≡◌, ◌≤◌, ◌<◌, [], true, false, Err, IfErr, IfOk, IsTrue, OnErr, OnOk, length, reverse};
 ghost use Rattle.pr_story.specs.Sessions.{HasGoneOn};
 

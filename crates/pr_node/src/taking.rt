@@ -4,7 +4,7 @@ ghost use Rattle.pr_inval.specs.declared.kind.Kind.TheVariants.{Body, Checkpoint
 ghost use Rattle.pr_bodies.specs.Bodies.{IsSettled};
 ghost use Rattle.pr_node.specs.Taking.{AreSettled, HasTaken, IsBodyTaken, IsGap, IsLate, LeavesBodies};
 ghost use Rattle.pr_vectors.specs.Vector.{Le};
-ghost use Rattle.pr_wire.specs.Messages.{IsKind};
+ghost use Rattle.pr_inval.specs.Messages.{IsKind};
 ghost use Rattle.std.specs.Prelude.{◌≡◌, ◌↔◌, IsTrue, OnOk};
 
 use crate::Stores;

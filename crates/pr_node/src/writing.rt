@@ -7,7 +7,7 @@ ghost use Rattle.pr_story.specs.Ranges.{IsStampOrNone};
 ghost use Rattle.pr_story.specs.declared.entry.Entry.{Entry};
 ghost use Rattle.pr_story.specs.declared.event.Event.TheVariants.{Wrote};
 ghost use Rattle.pr_vectors.specs.Vector.{clock_of};
-ghost use Rattle.pr_wire.specs.Messages.{IsPrev};
+ghost use Rattle.pr_inval.specs.Messages.{IsPrev};
 ghost use Rattle.std.specs.Option.{option_map};
 ghost use Rattle.std.specs.Prelude.{◌≡◌, ◌<◌, ◌≤◌, ◌∷◌, ℕ, List, None, IfSome, OnOk, length};
 
