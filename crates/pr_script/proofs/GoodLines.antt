@@ -1,6 +1,6 @@
 -- What an accepted line says is good where it stands.
-use Rattle.std.proofs.Common.{◌≡◌, ℕ, ◌+◌, ◌<◌, ◌≤◌, Bool, true, false, cond, List, [], ◌∷◌, ◌++◌, length, Option, Some, None, Result, Ok, Err, refl, sym, ap, subst, ◌∙◌, arith, length-append}
-use Rattle.std.specs.Prelude.{◌≢◌, not, ◌&&◌, ◌||◌, nat_le, nat_lt, nat_eq, is_some, IsTrue, AllPairs}
+use Rattle.std.proofs.Common.{◌≡◌, ℕ, ◌+◌, ◌<◌, ◌≤◌, Bool, true, false, cond, List, [], ◌∷◌, ◌++◌, length, Option, Some, None, Result, Ok, refl, sym, subst, ◌∙◌, arith, length-append}
+use Rattle.std.specs.Prelude.{◌≢◌, not, ◌&&◌, ◌||◌, nat_le, nat_lt, nat_eq, is_some, AllPairs}
 use Rattle.std.specs.List.{AllByRecursion, list_all, list_any, position}
 use Rattle.std.specs.Str.{bytes_eq}
 use Rattle.std.proofs.lemmas.Bool.Decides.{nat_tests}
@@ -9,7 +9,6 @@ use Rattle.std.proofs.lemmas.List.Kept.{AllPairs-cons}
 use Rattle.std.proofs.lemmas.List.Quantifiers.{position-Some}
 use Rattle.pr_names.specs.Span.{Span}
 use Rattle.pr_sets.specs.Spans.{has, Meet}
-use Rattle.pr_script.specs.declared.decl.Decl.{Decl}
 use Rattle.pr_script.specs.declared.decl.Decl.TheVariants as decls
 use Rattle.pr_script.specs.declared.command.Command.{Command}
 use Rattle.pr_script.specs.declared.command.Command.TheVariants as commands
@@ -27,11 +26,11 @@ use Rattle.pr_script.specs.Fields.{◌>>=◌, demand, wanted, is_plain, is_blank
 use Rattle.pr_script.specs.Texts.{last_text}
 use Rattle.pr_script.specs.Sets.{share, set_of, sets_of, are_apart}
 use Rattle.pr_script.specs.Labels.{is_label, labels_of, number_among, is_declared, count_of}
-use Rattle.pr_script.specs.Known.{has_number, with_number, turns_after, attached_after, clients_after, flows_after}
+use Rattle.pr_script.specs.Known.{has_number, with_number, turns_after, clients_after, flows_after}
 use Rattle.pr_script.specs.Parts.{least_broken, judged, is_used, number, label_at, name_at, turns_at, home_at, written_at}
 use Rattle.pr_script.specs.Lines.{node_line, client_line, Stream, stream_at, stream_line, attach_line, is_ready, detach_line, send_line, checkpoint_line, deliver_line, flow_fits, may_flow, flow_line, client_fits, write_line, delete_line, read_line, move_line, want_at, want_fits, expect_line, cut_line, state_line, drop_line, conflicts_line, settle_line, phase_line, end_line, word_of, word_line, line_item}
 use Rattle.pr_script.specs.Steps.{is_phase, is_end, flow_of}
-use Rattle.pr_script.specs.Good.{IsShortWant, IsNumberOf, IsGoodDecl, IsGoodCommand, IsGoodJobLine}
+use Rattle.pr_script.specs.Good.{IsShortWant, IsGoodDecl, IsGoodCommand, IsGoodJobLine}
 use Rattle.pr_script.proofs.FieldsAgain.{bind_ok, demand_ok, wanted_ok}
 use Rattle.pr_script.proofs.Positions.{both}
 use Rattle.pr_script.proofs.DecimalAgain.{number_range}

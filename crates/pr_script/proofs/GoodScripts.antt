@@ -1,7 +1,7 @@
 -- An accepted script is good: line by line, with what is known of the lines before.
-use Rattle.std.proofs.Common.{◌≡◌, ℕ, ◌+◌, ◌<◌, ◌≤◌, Bool, true, false, ◌||◌, cond, List, [], ◌∷◌, ◌++◌, length, map, Option, Some, None, Result, Ok, Err, refl, sym, ap, subst, ◌∙◌, append_assoc, arith, length-append, IfOk}
-use Rattle.std.specs.Prelude.{◌≢◌, nat_eq, nat_lt, is_some, IsTrue, AllPairs, ◌==◌}
-use Rattle.std.specs.List.{AllByRecursion, list_any, fold, flat_map, filter}
+use Rattle.std.proofs.Common.{◌≡◌, ℕ, ◌+◌, ◌<◌, ◌≤◌, Bool, true, false, ◌||◌, cond, List, [], ◌∷◌, ◌++◌, length, Option, Some, None, Result, Ok, Err, refl, sym, ap, subst, ◌∙◌, append_assoc, arith, length-append, IfOk}
+use Rattle.std.specs.Prelude.{◌≢◌, nat_eq, is_some, AllPairs, ◌==◌}
+use Rattle.std.specs.List.{AllByRecursion, list_any, fold, flat_map}
 use Rattle.std.proofs.lemmas.List.{append-nil, map-append}
 use Rattle.std.proofs.lemmas.List.Sums.{fold-append}
 use Rattle.std.proofs.lemmas.List.Concat.{flat_map-append}
@@ -19,15 +19,17 @@ use Rattle.pr_script.specs.declared.item.Item.TheVariants as items
 use Rattle.pr_script.specs.declared.kind.Kind.{Kind}
 use Rattle.pr_script.specs.declared.kind.Kind.TheVariants as kinds
 use Rattle.pr_script.specs.declared.known.Known.{Known}
+use Rattle.pr_script.specs.declared.owner.Owner.{Owner}
+use Rattle.pr_script.specs.declared.owner.Owner.TheVariants as owner
 use Rattle.pr_script.specs.declared.script.Script.{Script}
 use Rattle.pr_script.specs.Answers.{Answers}
-use Rattle.pr_script.specs.Good.{IsNumberOf, IsGoodDecl, AreGoodDecls, IsGoodCommand, IsGoodJobLine, IsGoodPhase, AreGoodSteps, IsGood}
-use Rattle.pr_script.specs.Known.{has_number, with_number, turns_after, is_read, attached_after, phase_after, clients_after, flows_after, known_after}
+use Rattle.pr_script.specs.Good.{IsGoodDecl, IsGoodCommand, IsGoodJobLine, IsGoodPhase, AreGoodSteps, IsGood}
+use Rattle.pr_script.specs.Known.{has_number, with_number, turns_after, is_read, attached_after, phase_after, known_after}
 use Rattle.pr_script.specs.Labels.{AreLabels, count_of, is_kind, labels_of}
 use Rattle.pr_script.specs.Laws.{AreGoodScripts}
 use Rattle.pr_script.specs.Lines.{line_item}
-use Rattle.pr_script.specs.Reading.{Sofar, after, all_lines, is_skipped, next, numbered, passed, script_of, start, told}
-use Rattle.pr_script.specs.Steps.{Numbered, Step, Alone, Phase, is_phase, is_end, steps_from, steps_of, unnumbered, step_commands, Owner, OfClient, OfStream, is_owner, owner_of, has_owner, with_owner, owners_of, flow_of, flows_in, turns_in}
+use Rattle.pr_script.specs.Reading.{Sofar, after, all_lines, is_skipped, next, numbered, passed, start, told}
+use Rattle.pr_script.specs.Steps.{Numbered, Step, Alone, Phase, is_phase, is_end, steps_from, steps_of, unnumbered, step_commands, is_same_owner, owner_of, has_owner, with_owner, owners_of, flow_of, flows_in, turns_in}
 use Rattle.pr_script.proofs.Accepted.{added, have_labels, labels_more}
 use Rattle.pr_script.proofs.GoodLines.{IsInJob, IsTaken, IsGoodItem, item_good}
 use Rattle.pr_script.proofs.LinesAgain.{IsFirst, item_again}
@@ -69,8 +71,8 @@ record IsOpen (ds : List Decl) (attached clients flows : List ℕ) (turns : ℕ)
   apart : AllPairs (λ (s : ℕ) (t : ℕ). s ≢ t) flows
   few : length clients + length flows ≤ 64
   jobs : length (owners_of inside) ≡ length clients + length flows
-  has_clients : (c : ℕ) → has_owner (owners_of inside) (OfClient c) ≡ has_number clients c
-  has_streams : (s : ℕ) → has_owner (owners_of inside) (OfStream s) ≡ has_number flows s
+  has_clients : (c : ℕ) → has_owner (owners_of inside) (owner.Client c) ≡ has_number clients c
+  has_streams : (s : ℕ) → has_owner (owners_of inside) (owner.Stream s) ≡ has_number flows s
   sum : turns_in inside ≤ turns
 
 none_open : (ds : List Decl) (attached : List ℕ) (turns : ℕ) → IsOpen ds attached [] [] turns []
@@ -91,32 +93,32 @@ job_count : (b : Bool) (os : List Owner) (o : Owner) (ns : List ℕ) (n m : ℕ)
 job_count true os o ns n m h = h
 job_count false os o ns n m h = let l = length-append os (o ∷ []) in let k = length-append ns (n ∷ []) in omega (arith, l, k, h)
 
-same_job : (b : Bool) (os : List Owner) (o p : Owner) (ns : List ℕ) (n m : ℕ) → has_owner os p ≡ has_number ns m → is_owner o p ≡ nat_eq n m
+same_job : (b : Bool) (os : List Owner) (o p : Owner) (ns : List ℕ) (n m : ℕ) → has_owner os p ≡ has_number ns m → is_same_owner o p ≡ nat_eq n m
     → has_owner (cond b os (os ++ o ∷ [])) p ≡ has_number (cond b ns (ns ++ n ∷ [])) m
 same_job true os o p ns n m h e = h
-same_job false os o p ns n m h e = any_more (λ q. is_owner q p) os o ∙ (ap (λ (x : Bool). x || is_owner o p) h ∙ (ap (λ (x : Bool). has_number ns m || x) e ∙ sym (any_more (λ q. q == m) ns n)))
+same_job false os o p ns n m h e = any_more (λ q. is_same_owner q p) os o ∙ (ap (λ (x : Bool). x || is_same_owner o p) h ∙ (ap (λ (x : Bool). has_number ns m || x) e ∙ sym (any_more (λ q. q == m) ns n)))
 
-other_job : (b : Bool) (os : List Owner) (o p : Owner) (t : Bool) → has_owner os p ≡ t → is_owner o p ≡ false → has_owner (cond b os (os ++ o ∷ [])) p ≡ t
+other_job : (b : Bool) (os : List Owner) (o p : Owner) (t : Bool) → has_owner os p ≡ t → is_same_owner o p ≡ false → has_owner (cond b os (os ++ o ∷ [])) p ≡ t
 other_job true os o p t h e = h
-other_job false os o p t h e = any_more (λ q. is_owner q p) os o ∙ (ap (λ (x : Bool). x || is_owner o p) h ∙ (ap (λ (x : Bool). t || x) e ∙ or_false t))
+other_job false os o p t h e = any_more (λ q. is_same_owner q p) os o ∙ (ap (λ (x : Bool). x || is_same_owner o p) h ∙ (ap (λ (x : Bool). t || x) e ∙ or_false t))
 
 -- a line of a client
 client_more : (ds : List Decl) (attached clients flows : List ℕ) (turns : ℕ) (inside : List Numbered) (c : Numbered) (client : ℕ)
-    → IsOpen ds attached clients flows turns inside → IsGoodJobLine ds attached c.1 → owner_of c.1 ≡ Some (OfClient client) → flow_of c.1 ≡ [] → turns_after c.1 turns ≡ turns
+    → IsOpen ds attached clients flows turns inside → IsGoodJobLine ds attached c.1 → owner_of c.1 ≡ Some (owner.Client client) → flow_of c.1 ≡ [] → turns_after c.1 turns ≡ turns
     → length (with_number clients client) + length flows ≤ 64 → IsOpen ds attached (with_number clients client) flows turns (inside ++ c ∷ [])
 client_more ds attached clients flows turns inside c client o line mine none same few =
-    let owners : owners_of (inside ++ c ∷ []) ≡ with_owner (owners_of inside) (Some (OfClient client)) = owners_more inside c ∙ ap (with_owner (owners_of inside)) mine in
-    let there : with_owner (owners_of inside) (Some (OfClient client)) ≡ cond (has_number clients client) (owners_of inside) (owners_of inside ++ OfClient client ∷ []) =
-    ap (λ (b : Bool). cond b (owners_of inside) (owners_of inside ++ OfClient client ∷ [])) (o.has_clients client) in
+    let owners : owners_of (inside ++ c ∷ []) ≡ with_owner (owners_of inside) (Some (owner.Client client)) = owners_more inside c ∙ ap (with_owner (owners_of inside)) mine in
+    let there : with_owner (owners_of inside) (Some (owner.Client client)) ≡ cond (has_number clients client) (owners_of inside) (owners_of inside ++ owner.Client client ∷ []) =
+    ap (λ (b : Bool). cond b (owners_of inside) (owners_of inside ++ owner.Client client ∷ [])) (o.has_clients client) in
     let now = owners ∙ there in
     record {
       lines = all_more (λ (x : Numbered). IsGoodJobLine ds attached x.1) inside c o.lines line;
       flow_lines = flows_more inside c ∙ (ap (λ (x : List ℕ). flows_in inside ++ x) none ∙ (append-nil (flows_in inside) ∙ o.flow_lines));
       apart = o.apart;
       few = few;
-      jobs = ap (λ (x : List Owner). length x) now ∙ job_count (has_number clients client) (owners_of inside) (OfClient client) clients client (length flows) o.jobs;
-      has_clients = λ m. ap (λ (x : List Owner). has_owner x (OfClient m)) now ∙ same_job (has_number clients client) (owners_of inside) (OfClient client) (OfClient m) clients client m (o.has_clients m) refl;
-      has_streams = λ s. ap (λ (x : List Owner). has_owner x (OfStream s)) now ∙ other_job (has_number clients client) (owners_of inside) (OfClient client) (OfStream s) (has_number flows s) (o.has_streams s) refl;
+      jobs = ap (λ (x : List Owner). length x) now ∙ job_count (has_number clients client) (owners_of inside) (owner.Client client) clients client (length flows) o.jobs;
+      has_clients = λ m. ap (λ (x : List Owner). has_owner x (owner.Client m)) now ∙ same_job (has_number clients client) (owners_of inside) (owner.Client client) (owner.Client m) clients client m (o.has_clients m) refl;
+      has_streams = λ s. ap (λ (x : List Owner). has_owner x (owner.Stream s)) now ∙ other_job (has_number clients client) (owners_of inside) (owner.Client client) (owner.Stream s) (has_number flows s) (o.has_streams s) refl;
       sum = let t = later_turns c.1 (turns_in inside) turns o.sum in let m = turns_more inside c in omega (arith, t, m, same);
     }
 
@@ -142,9 +144,9 @@ flow_more : (ds : List Decl) (attached clients flows : List ℕ) (turns line str
     → IsOpen ds attached clients (with_number flows stream) (turns + count) (inside ++ (line, commands.Flow stream count) ∷ [])
 flow_more ds attached clients flows turns line stream count inside o good new few =
     let c : Numbered = (line, commands.Flow stream count) in
-    let owners : owners_of (inside ++ c ∷ []) ≡ with_owner (owners_of inside) (Some (OfStream stream)) = owners_more inside c in
-    let there : with_owner (owners_of inside) (Some (OfStream stream)) ≡ cond (has_number flows stream) (owners_of inside) (owners_of inside ++ OfStream stream ∷ []) =
-    ap (λ (b : Bool). cond b (owners_of inside) (owners_of inside ++ OfStream stream ∷ [])) (o.has_streams stream) in
+    let owners : owners_of (inside ++ c ∷ []) ≡ with_owner (owners_of inside) (Some (owner.Stream stream)) = owners_more inside c in
+    let there : with_owner (owners_of inside) (Some (owner.Stream stream)) ≡ cond (has_number flows stream) (owners_of inside) (owners_of inside ++ owner.Stream stream ∷ []) =
+    ap (λ (b : Bool). cond b (owners_of inside) (owners_of inside ++ owner.Stream stream ∷ [])) (o.has_streams stream) in
     let now = owners ∙ there in
     let with : with_number flows stream ≡ flows ++ stream ∷ [] = ap (λ (b : Bool). cond b flows (flows ++ stream ∷ [])) new in
     record {
@@ -154,9 +156,9 @@ flow_more ds attached clients flows turns line stream count inside o good new fe
       few = few;
       jobs =
           ap (λ (x : List Owner). length x) now
-          ∙ (let j = job_count (has_number flows stream) (owners_of inside) (OfStream stream) flows stream (length clients) (let i = o.jobs in omega (arith, i)) in omega (arith, j));
-      has_clients = λ m. ap (λ (x : List Owner). has_owner x (OfClient m)) now ∙ other_job (has_number flows stream) (owners_of inside) (OfStream stream) (OfClient m) (has_number clients m) (o.has_clients m) refl;
-      has_streams = λ s. ap (λ (x : List Owner). has_owner x (OfStream s)) now ∙ same_job (has_number flows stream) (owners_of inside) (OfStream stream) (OfStream s) flows stream s (o.has_streams s) refl;
+          ∙ (let j = job_count (has_number flows stream) (owners_of inside) (owner.Stream stream) flows stream (length clients) (let i = o.jobs in omega (arith, i)) in omega (arith, j));
+      has_clients = λ m. ap (λ (x : List Owner). has_owner x (owner.Client m)) now ∙ other_job (has_number flows stream) (owners_of inside) (owner.Stream stream) (owner.Client m) (has_number clients m) (o.has_clients m) refl;
+      has_streams = λ s. ap (λ (x : List Owner). has_owner x (owner.Stream s)) now ∙ same_job (has_number flows stream) (owners_of inside) (owner.Stream stream) (owner.Stream s) flows stream s (o.has_streams s) refl;
       sum = let t = o.sum in let m = turns_more inside c in omega (arith, t, m);
     }
 
@@ -283,7 +285,7 @@ weaker ds attached was [] h = tt
 weaker ds attached was (Alone c ∷ steps) h = (weaker_command ds attached was c.1 h.0, h.1)
 weaker ds attached was (Phase inside ∷ steps) h = h
 
-steps_alone : (c : Numbered) (cs : List Numbered) → is_phase c.1 ≡ false → steps_from None (c ∷ cs) ≡ Alone c ∷ steps_from None cs
+pub steps_alone : (c : Numbered) (cs : List Numbered) → is_phase c.1 ≡ false → steps_from None (c ∷ cs) ≡ Alone c ∷ steps_from None cs
 unfolding steps_from
 steps_alone c cs e = rw e refl
 

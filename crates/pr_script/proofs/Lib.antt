@@ -20,4 +20,6 @@ pub mod WholeScript
 pub mod Accepted
 pub mod GoodLines
 pub mod GoodScripts
+pub mod Stepping
 pub mod Spelled
+pub mod Beginnings

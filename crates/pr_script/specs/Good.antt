@@ -1,6 +1,6 @@
 -- What an accepted script is good for: all that is asked of it by what runs it.
-use Rattle.std.specs.Prelude.{◌≡◌, ◌≢◌, ◌<◌, ◌≤◌, ℕ, List, [], ◌∷◌, Bool, false, length, is_some, IsTrue, AllPairs}
-use Rattle.std.specs.List.{AllByRecursion, flat_map}
+use Rattle.std.specs.Prelude.{◌≢◌, ◌<◌, ◌≤◌, ℕ, List, [], ◌∷◌, Bool, false, length, is_some, IsTrue, AllPairs}
+use Rattle.std.specs.List.{AllByRecursion}
 use Rattle.pr_names.specs.Span.{Span}
 use Rattle.pr_sets.specs.Spans.{has, Meet}
 use Rattle.pr_script.specs.declared.decl.Decl.{Decl}
@@ -14,7 +14,7 @@ use Rattle.pr_script.specs.declared.want.Want.{Want}
 use Rattle.pr_script.specs.declared.want.Want.TheVariants as wants
 use Rattle.pr_script.specs.Labels.{count_of, most_of}
 use Rattle.pr_script.specs.Known.{has_number, attached_after, is_read}
-use Rattle.pr_script.specs.Steps.{Numbered, Step, Alone, Phase, steps_of, step_commands, unnumbered, owner_of, owners_of, flows_in, turns_in}
+use Rattle.pr_script.specs.Steps.{Numbered, Step, Alone, Phase, steps_of, AreWhole, owner_of, owners_of, flows_in, turns_in}
 
 -- what the expectation names has at most as many bytes as a script may write
 abbrev pub IsShortWant : Want → Type 0
@@ -91,6 +91,6 @@ module _ (ds : List Decl) where
 -- a script's declarations are good, its steps are its commands, each phase with its end, and good one after the other
 pub record IsGood (s : Script) : Type 0 where
   pub decls : AreGoodDecls s.decls.list
-  pub whole : flat_map step_commands (steps_of s.commands) ≡ unnumbered s.commands
+  pub whole : AreWhole s.commands
   pub steps : AreGoodSteps s.decls.list [] false (steps_of s.commands)
   pub turns : turns_in s.commands ≤ 1000000

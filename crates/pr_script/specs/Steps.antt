@@ -1,8 +1,10 @@
 -- A script's commands as its steps: a command alone, or a phase with what stands between its `phase` and its `end`.
-use Rattle.std.specs.Prelude.{ℕ, ◌+◌, List, [], ◌∷◌, ◌++◌, Option, Some, None, Bool, true, false, map, nat_eq, if◌then◌else◌}
+use Rattle.std.specs.Prelude.{◌≡◌, ℕ, List, [], ◌∷◌, ◌++◌, Option, Some, None, Bool, true, false, map, nat_eq, if◌then◌else◌}
 use Rattle.std.specs.List.{fold, list_any, flat_map}
 use Rattle.pr_script.specs.declared.command.Command.{Command}
 use Rattle.pr_script.specs.declared.command.Command.TheVariants as commands
+use Rattle.pr_script.specs.declared.owner.Owner.{Owner}
+use Rattle.pr_script.specs.declared.owner.Owner.TheVariants as owner
 use Rattle.pr_script.specs.Known.{turns_after}
 
 -- each command with the number of its line
@@ -41,28 +43,28 @@ abbrev pub step_commands : Step → List Command
 step_commands (Alone c) = c.1 ∷ []
 step_commands (Phase inside) = commands.Phase ∷ (unnumbered inside ++ commands.End ∷ [])
 
+-- the steps are the commands: each phase has its end
+abbrev pub AreWhole : List Numbered → Type 0
+AreWhole cs = flat_map step_commands (steps_of cs) ≡ unnumbered cs
+
 -- ---- the jobs of a phase
 
 -- all lines of a client are one job, and each flow of a stream is one
-pub data Owner : Type 0 where
-  OfClient : ℕ → Owner
-  OfStream : ℕ → Owner
-
-abbrev pub is_owner : Owner → Owner → Bool
-is_owner (OfClient a) (OfClient b) = nat_eq a b
-is_owner (OfStream a) (OfStream b) = nat_eq a b
-is_owner a b = false
+abbrev pub is_same_owner : Owner → Owner → Bool
+is_same_owner (owner.Client a) (owner.Client b) = nat_eq a b
+is_same_owner (owner.Stream a) (owner.Stream b) = nat_eq a b
+is_same_owner a b = false
 
 -- whose the line is, where it may stand in a phase
 abbrev pub owner_of : Command → Option Owner
-owner_of (commands.Write client name body) = Some (OfClient client)
-owner_of (commands.Delete client name) = Some (OfClient client)
-owner_of (commands.Read client name) = Some (OfClient client)
-owner_of (commands.Flow stream turns) = Some (OfStream stream)
+owner_of (commands.Write client name body) = Some (owner.Client client)
+owner_of (commands.Delete client name) = Some (owner.Client client)
+owner_of (commands.Read client name) = Some (owner.Client client)
+owner_of (commands.Flow stream turns) = Some (owner.Stream stream)
 owner_of c = None
 
 abbrev pub has_owner : List Owner → Owner → Bool
-has_owner owners o = list_any (λ p. is_owner p o) owners
+has_owner owners o = list_any (λ p. is_same_owner p o) owners
 
 abbrev pub with_owner : List Owner → Option Owner → List Owner
 with_owner owners None = owners

@@ -11,12 +11,13 @@ use Rattle.pr_story.specs.declared.reply.Reply.TheVariants as reply
 use Rattle.pr_story.specs.History.{Plan, NodeEntry, SomeEvent, entries, journal, Writes, WasWritten, current_clock, current_vector}
 use Rattle.pr_story.specs.Knowledge.{IsGreatest, IsCoveredWrite, IsNewest, IsGone, held_body}
 use Rattle.pr_story.specs.Lawful.{IsLawful, Valid}
-use Rattle.pr_story.specs.Laws.{AreAlike, IsAnswerOf, NodesAnswerAlike, Answers, AnswersAlike}
+use Rattle.pr_story.specs.Laws.{AreAlike, IsAnswerOf, Answers, AnswersAlike}
 use Rattle.pr_story.proofs.Clocks.{neither_before}
 use Rattle.pr_story.proofs.Basics.{clock_at, clock_is, vector_clock}
 use Rattle.pr_story.proofs.World.{World}
 use Rattle.pr_story.proofs.Known.{same_point, held_written}
 use Rattle.pr_story.proofs.Steps.{valid_world, entry_at}
+use Rattle.pr_story.specs.Statements.{NodesAnswerAlike}
 
 -- the greatest is one
 pub greatest_one : (P : Point → Type 0) (a b : Option Point) → IsGreatest P a → IsGreatest P b → a ≡ b

@@ -10,11 +10,12 @@ use Rattle.pr_story.specs.declared.event.Event.TheVariants.{Wrote, Answered, Beh
 use Rattle.pr_story.specs.History.{Plan, NodeEntry, SomeEvent, entries, journal, clock_brought, current_vector}
 use Rattle.pr_story.specs.Clients.{node_after, client_node, seen_after, client_vector}
 use Rattle.pr_story.specs.Lawful.{IsLawful, Valid}
-use Rattle.pr_story.specs.Laws.{Sees, WritesFor, NoneGoesBack, Moves, IsLate, NeverBehind}
+use Rattle.pr_story.specs.Laws.{Sees, WritesFor, NoneGoesBack, Moves, IsLate}
 use Rattle.pr_story.proofs.Basics.{clock_zero, clock_at, vector_clock}
 use Rattle.pr_story.proofs.Clocks.{clock_grows}
 use Rattle.pr_story.proofs.Making.{join_clock}
 use Rattle.pr_story.proofs.Steps.{entry_at}
+use Rattle.pr_story.specs.Statements.{NeverBehind}
 
 pub raised_clock : (v : List ℕ) (p : Point) (n : ℕ) → n < 32 → clock_of (raised v p) n ≡ cond (nat_eq n p.node) (max (clock_of v n) p.clock) (clock_of v n)
 raised_clock v p n lt = clock_of-vector_of (λ k. cond (nat_eq k p.node) (max (clock_of v k) p.clock) (clock_of v k)) n lt

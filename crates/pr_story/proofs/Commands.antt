@@ -21,7 +21,7 @@ use Rattle.pr_story.specs.Clients.{client_node, client_vector}
 use Rattle.pr_story.specs.Turns.{IsSnapshot, IsTurn, Turn, StaleTurn, IdleTurn, SendTurn, standing}
 use Rattle.pr_story.specs.Commands.{IsNoCheckpoint}
 use Rattle.pr_story.specs.Lawful.{IsLawful, Valid, IsPlaced, HasCause, heard_time}
-use Rattle.pr_story.specs.Commands.{Command, ToWrite, ToRead, ToMove, ToAttach, ToSend, ToCheckpoint, ToDeliver, ToEnd, ToCut, ToDrop, ToFindConflicts, ToTellState, IsCheckpoint, Gives, CommandsDetermine}
+use Rattle.pr_story.specs.Commands.{Command, ToWrite, ToRead, ToMove, ToAttach, ToSend, ToCheckpoint, ToDeliver, ToEnd, ToCut, ToDrop, ToFindConflicts, ToTellState, IsCheckpoint, Gives}
 use Rattle.pr_story.proofs.World.{told_one}
 use Rattle.pr_story.proofs.Known.{same_point, known_told}
 use Rattle.pr_story.proofs.Steps.{valid_world, entry_at}
@@ -29,6 +29,7 @@ use Rattle.pr_story.proofs.Alike.{greatest_one}
 use Rattle.pr_story.proofs.Lines.{sent_once}
 use Rattle.pr_story.proofs.OneAnswer.{all_one, answer_one, found_one, snapshot_one, start_one}
 use Rattle.pr_story.proofs.OneTurn.{turn_one}
+use Rattle.pr_story.specs.Statements.{CommandsDetermine}
 
 -- ---- one command
 

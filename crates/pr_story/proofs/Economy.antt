@@ -17,13 +17,14 @@ use Rattle.pr_story.specs.History.{Plan, NodeEntry, journal, WasWritten, clock_b
 use Rattle.pr_story.specs.Knowledge.{TellsOf, WasTold, Knows}
 use Rattle.pr_story.specs.Turns.{standing, Attaches, position, IsWriteToSend, IsNextWrite, IsTurn, IsSnapshot, SendTurn}
 use Rattle.pr_story.specs.Lawful.{IsLawful, Valid}
-use Rattle.pr_story.specs.Economy.{IsNoNews, IsQuiet, counts_invalidation, invalidations, IsAmong, FewInvalidations}
+use Rattle.pr_story.specs.Economy.{IsNoNews, IsQuiet, counts_invalidation, invalidations, IsAmong}
 use Rattle.pr_story.proofs.Clocks.{neither_before, at_last}
 use Rattle.pr_story.proofs.Basics.{clock_zero, clock_at}
 use Rattle.pr_story.proofs.World.{World, told_written, told_covered, told_one}
 use Rattle.pr_story.proofs.Known.{known_told, same_point}
 use Rattle.pr_story.proofs.Making.{join_clock, below_clock, cut_clock}
 use Rattle.pr_story.proofs.Steps.{valid_world, entry_at}
+use Rattle.pr_story.specs.Statements.{FewInvalidations}
 
 -- ---- lists
 

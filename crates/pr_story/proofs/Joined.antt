@@ -11,12 +11,11 @@ use Rattle.pr_inval.specs.declared.kind.Kind.TheVariants.{Imprecise}
 use Rattle.pr_inval.specs.declared.write_rec.WriteRec.{WriteRec}
 use Rattle.pr_inval.specs.Merging.{IsMerged, Rises}
 use Rattle.pr_inval.proofs.Merges.{swapped}
-use Rattle.pr_story.specs.History.{Plan, NodeEntry, WasWritten, journal, current_clock}
+use Rattle.pr_story.specs.History.{NodeEntry, WasWritten, journal, current_clock}
 use Rattle.pr_story.specs.Messages.{IsHonest}
-use Rattle.pr_story.specs.Lawful.{Valid}
-use Rattle.pr_story.specs.Laws.{IsHonestInvalidation, MergesAreHonest}
-use Rattle.pr_story.proofs.World.{World, IsOwn}
-use Rattle.pr_story.proofs.Steps.{valid_world}
+use Rattle.pr_story.specs.Ranges.{IsWrite}
+use Rattle.pr_story.specs.Laws.{IsHonestInvalidation}
+use Rattle.pr_story.specs.Statements.{MergesAreHonest}
 
 halves : (a m t s e c : ℕ) → s ≡ a → e ≡ t → s < c → c ≤ e → ((a < c) × (c ≤ m)) ⊎ ((m < c) × (c ≤ t))
 halves a m t s e c p q past upto = grind arith
@@ -55,9 +54,9 @@ either true q r e s = e
 either false q r e s = elim s [ inl p ↦ absurd (cc) | inr right ↦ e ∙ right ]
 
 -- the first ends where the second starts
-in_order : (h : List NodeEntry) (a b merged : Invalidation) → World h → a.to ≡ b.from → Rises a → Rises b → IsMerged a b merged
+in_order : (h : List NodeEntry) (a b merged : Invalidation) → ((x : WriteRec) (body dep : List ℕ) → WasWritten h x body dep → IsWrite x) → a.to ≡ b.from → Rises a → Rises b → IsMerged a b merged
     → IsHonestInvalidation h a → IsHonestInvalidation h b → IsHonestInvalidation h merged
-in_order h a b merged f next ra rb m p q =
+in_order h a b merged range next ra rb m p q =
     joins_honest h a.from a.to b.to merged.from merged.to a.target b.target merged.target ra
     (subst (λ (v : List ℕ). Le v b.to) (sym next) rb)
     (λ v lt.
@@ -73,14 +72,12 @@ in_order h a b merged f next ra rb m p q =
     let le : clock_of b.from v ≤ clock_of b.to v = rb v lt in
     omega arith)
     (λ o name s. either (has a.target o) (has b.target o) (has merged.target o) (m.target.names o name) s)
-    (λ x body dep w. let i : IsOwn h x dep = f.is_own x body dep w in (i.node, i.name))
+    (λ x body dep w. let i : IsWrite x = range x body dep w in (i.1.known_node, i.0))
     p
     (subst (λ (v : List ℕ). IsHonest h (Imprecise v b.to b.target)) (sym next) q)
 
-pub merges_honest : (plan : Plan) (h : List NodeEntry) → Valid plan h → MergesAreHonest plan h
-merges_honest plan h val a b merged adjacent ra rb m p q =
-    let f : World h = valid_world plan h val in
-    elim adjacent [
-      | inl next ↦ in_order h a b merged f next ra rb m p q
-      | inr back ↦ in_order h b a merged f back rb ra (swapped a b merged m) q p
-    ]
+pub merges_honest : MergesAreHonest
+merges_honest h a b merged range adjacent ra rb m p q = elim adjacent [
+  | inl next ↦ in_order h a b merged range next ra rb m p q
+  | inr back ↦ in_order h b a merged range back rb ra (swapped a b merged m) q p
+]

@@ -48,3 +48,4 @@ pub mod InTime
 pub mod Remaining
 pub mod OneThread
 pub mod Phases
+pub mod Worked

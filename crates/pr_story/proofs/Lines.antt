@@ -10,8 +10,9 @@ use Rattle.pr_story.specs.declared.event.Event.TheVariants.{Wrote, Attached, Sen
 use Rattle.pr_story.specs.History.{Plan, NodeEntry, journal, Sends, WasSent}
 use Rattle.pr_story.specs.Turns.{standing, sent_count, count_after, stream_time, is_timed}
 use Rattle.pr_story.specs.Lawful.{IsLawful, Valid, last_time, heard_time, HasCause}
-use Rattle.pr_story.specs.Lines.{IsSameNumber, SaySame, without_callers, LinesDetermine}
+use Rattle.pr_story.specs.Lines.{IsSameNumber, SaySame, without_callers}
 use Rattle.pr_story.proofs.Steps.{entry_at}
+use Rattle.pr_story.specs.Statements.{LinesDetermine}
 
 -- ---- each number is sent once
 

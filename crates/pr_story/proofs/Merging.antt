@@ -16,8 +16,9 @@ use Rattle.pr_inval.specs.Standing.{Standing}
 use Rattle.pr_story.specs.Turns.{is_of_stream, is_with_session, is_timed, Attaches, position, position_after, sent_count, count_after, has_sent, sent_after, is_body, stream_time}
 use Rattle.pr_story.specs.Lawful.{HasCause, IsPlaced, IsOwnLawful, Valid, is_after_gap, is_gap, DownAfter}
 use Rattle.pr_story.specs.Laws.{StandsFor}
-use Rattle.pr_story.specs.Merging.{New, plain, just, of_job, of_node, IsNodeRun, IsJobRun, IsNoMissing, AreApart, Merges}
+use Rattle.pr_story.specs.Merging.{New, plain, just, of_job, of_node, IsNodeRun, IsJobRun, IsNoMissing, AreApart}
 use Rattle.pr_story.proofs.OneMore.{one_more, itself}
+use Rattle.pr_story.specs.Statements.{Merges}
 
 -- ---- what the events of other streams leave
 

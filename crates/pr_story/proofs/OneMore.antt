@@ -21,10 +21,11 @@ use Rattle.pr_story.specs.Clients.{is_with_needs, client_vector}
 use Rattle.pr_inval.specs.Standing.{Standing}
 use Rattle.pr_story.specs.Turns.{standing, is_with_session, position, has_sent, IsTurn, IsSnapshot, Turn, StaleTurn, IdleTurn, SendTurn}
 use Rattle.pr_story.specs.Lawful.{MayCome, heard_time, last_time}
-use Rattle.pr_story.specs.Laws.{StandsFor, OneMore}
+use Rattle.pr_story.specs.Laws.{StandsFor}
 use Rattle.pr_story.proofs.World.{World}
 use Rattle.pr_story.proofs.Precise.{newest_both, gone_both, marks_both, set_has}
 use Rattle.pr_story.proofs.Steps.{valid_world}
+use Rattle.pr_story.specs.Statements.{OneMore}
 
 pub itself : (s : ℕ) → IsTrue (nat_eq s s)
 itself s = (Decides-eqb s s).1 refl

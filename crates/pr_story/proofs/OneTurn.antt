@@ -11,13 +11,13 @@ use Rattle.pr_story.specs.History.{current_vector, journal}
 use Rattle.pr_story.specs.Knowledge.{Knows, WasNamed, IsNewestKnown, held_body}
 use Rattle.pr_inval.specs.Standing.{Standing}
 use Rattle.pr_story.specs.Turns.{IsNextWrite, IsWithheld, IsTarget, IsTurn, Turn, StaleTurn, IdleTurn, SendTurn}
-use Rattle.pr_story.specs.Commands.{OneTurn}
 use Rattle.pr_story.proofs.Clocks.{neither_before}
 use Rattle.pr_story.proofs.Known.{same_point, known_told}
 use Rattle.pr_story.proofs.World.{told_one}
 use Rattle.pr_story.proofs.Steps.{valid_world}
 use Rattle.pr_story.proofs.Sets.{one_set, name_order}
 use Rattle.pr_story.proofs.Alike.{greatest_one}
+use Rattle.pr_story.specs.Statements.{OneTurn}
 
 -- Premise: known writes are known by their stamps.
 module _ (n : ℕ) (j : List Entry) (one_write : (x y : WriteRec) → Knows j x → Knows j y → x.stamp ≡ y.stamp → x ≡ y) (st : Standing) where

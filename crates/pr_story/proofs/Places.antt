@@ -1,4 +1,4 @@
--- Where the messages of a history stand in the journals of their sources, and which numbers they have.
+-- Where entries stand in the journals of their nodes, and which numbers messages have.
 use Rattle.std.proofs.Common.{◌≡◌, ℕ, ◌+◌, ◌<◌, ◌≤◌, List, [], ◌∷◌, ◌++◌, inl, inr, refl, sym, ◌∙◌, ap, subst, cond, nat_eq, length, get_or, arith, reverse}
 use Rattle.std.specs.Prelude.{true, false, Bool, IsTrue}
 use Rattle.std.proofs.lemmas.Bool.{cases_lt}
@@ -12,7 +12,64 @@ use Rattle.pr_story.specs.History.{Plan, NodeEntry, journal, Sends, WasSent}
 use Rattle.pr_story.specs.Lawful.{IsLawful, Valid}
 use Rattle.pr_story.specs.Turns.{count_after, sent_count}
 use Rattle.pr_story.specs.Places as places
-use Rattle.pr_story.specs.Places.{IsSending, SendsAt, SentHavePlaces, sent_places}
+use Rattle.pr_story.specs.Places.{EntriesHavePlaces, IsAt, places_of, IsSending, SendsAt, SentHavePlaces, sent_places}
+
+-- ---- entries
+
+at_grown : (b : Bool) (entry : Entry) (j : List Entry) (place : ℕ) (e : Entry) → IsAt (reverse j) place e → IsAt (reverse (cond b (entry ∷ j) j)) place e
+at_grown false entry j place e at = at
+at_grown true entry j place e at =
+    subst (λ (xs : List Entry). IsAt xs place e) (sym (reverse-append (entry ∷ []) j)) (
+      (let l = length-append (reverse j) (entry ∷ []) in let lt : place < length (reverse j) = at.0 in omega arith),
+      λ d. get_or_append_left (reverse j) (entry ∷ []) d place at.0 ∙ at.1 d,
+    )
+
+at_last : (entry : Entry) (j : List Entry) → IsAt (reverse (entry ∷ j)) (length j) entry
+at_last entry j =
+    subst (λ (xs : List Entry). IsAt xs (length j) entry) (sym (reverse-append (entry ∷ []) j)) (
+      (let l = length-append (reverse j) (entry ∷ []) in let r = length-reverse j in omega arith),
+      λ d. get_or_push (reverse j) entry d (length j) (length-reverse j),
+    )
+
+-- the entry stands at this place
+abbrev StandsAt : List NodeEntry → ℕ × ℕ → NodeEntry → Type 0
+StandsAt h q x = (q.0 ≡ x.node) × IsAt (reverse (journal h q.0)) q.1 x.entry
+
+stands_more : (e : NodeEntry) (h : List NodeEntry) (q : ℕ × ℕ) (x : NodeEntry) → StandsAt h q x → StandsAt (e ∷ h) q x
+stands_more e h q x s = (s.0, at_grown (nat_eq e.node q.0) e.entry (journal h q.0) q.1 x.entry s.1)
+
+stands_last : (e : NodeEntry) (h : List NodeEntry) → StandsAt (e ∷ h) (e.node, length (journal h e.node)) e
+stands_last e h = (
+  refl,
+  subst (λ (b : Bool). IsAt (reverse (cond b (e.entry ∷ journal h e.node) (journal h e.node))) (length (journal h e.node)) e.entry) (sym ((Decides-eqb e.node e.node).1 refl))
+      (at_last e.entry (journal h e.node)),
+)
+
+many_places : (h : List NodeEntry) → length (places_of h) ≡ length h
+many_places [] = refl
+many_places (e ∷ h) = let l = length-append (places_of h) ((e.node, length (journal h e.node)) ∷ []) in let m : length (places_of h) ≡ length h = many_places h in omega arith
+
+all_stand : (h : List NodeEntry) (k : ℕ) (p : ℕ × ℕ) (d : NodeEntry) → k < length h → StandsAt h (get_or (places_of h) k p) (get_or (reverse h) k d)
+all_stand [] k p d lt = absurd (omega (arith, lt))
+all_stand (e ∷ h) k p d lt =
+    let last : ℕ × ℕ = (e.node, length (journal h e.node)) in
+    let many : length (places_of h) ≡ length h = many_places h in
+    let back : length (reverse h) ≡ length h = length-reverse h in
+    subst (λ (xs : List NodeEntry). StandsAt (e ∷ h) (get_or (places_of h ++ (e.node, length (journal h e.node)) ∷ []) k p) (get_or xs k d)) (sym (reverse-append (e ∷ []) h))
+    (elim (cases_lt k (length h)) [
+      | inl old ↦
+          subst (λ (q : ℕ × ℕ). StandsAt (e ∷ h) q (get_or (reverse h ++ e ∷ []) k d)) (sym (get_or_append_left (places_of h) ((e.node, length (journal h e.node)) ∷ []) p k (omega arith)))
+          (subst (λ (x : NodeEntry). StandsAt (e ∷ h) (get_or (places_of h) k p) x) (sym (get_or_append_left (reverse h) (e ∷ []) d k (omega arith)))
+          (stands_more e h (get_or (places_of h) k p) (get_or (reverse h) k d) (all_stand h k p d old)))
+      | inr past ↦
+          subst (λ (q : ℕ × ℕ). StandsAt (e ∷ h) q (get_or (reverse h ++ e ∷ []) k d)) (sym (get_or_push (places_of h) (e.node, length (journal h e.node)) p k (omega arith)))
+          (subst (λ (x : NodeEntry). StandsAt (e ∷ h) (e.node, length (journal h e.node)) x) (sym (get_or_push (reverse h) e d k (omega arith))) (stands_last e h))
+    ])
+
+pub entries_placed : (h : List NodeEntry) → EntriesHavePlaces h
+entries_placed h = record { many = many_places h; node = λ k p d lt. (all_stand h k p d lt).0; at = λ k p d lt. (all_stand h k p d lt).1 }
+
+-- ---- messages
 
 -- there are as many places as messages
 one_more_place : (event : Event) (s at k : ℕ) (ps : List ℕ) → k ≡ length ps → count_after event s k ≡ length (places.sent_after event s at ps)

@@ -1,6 +1,6 @@
 -- The target that is made of the dark names and the omitted ones.
 use Rattle.std.proofs.Common.{inl, inr}
-use Rattle.pr_story.specs.Turns.{TargetsMeet}
+use Rattle.pr_story.specs.Statements.{TargetsMeet}
 
 pub target_met : TargetsMeet
 target_met n j names v w dark omitted target d m is = elim is [

@@ -5,10 +5,7 @@ use Rattle.pr_inval.specs.declared.kind.Kind.TheVariants.{Checkpoint}
 use Rattle.pr_story.specs.declared.cause.Cause.{Cause}
 use Rattle.pr_story.specs.declared.event.Event.{Event}
 use Rattle.pr_story.specs.declared.event.Event.TheVariants.{Wrote, Attached, Sent, Idle, Stale, Accepted, Gapped, Missing, Down, Answered, Behind, Moved, Cut, Dropped, Conflicts, State}
-use Rattle.pr_story.specs.History.{Plan, NodeEntry, journal}
-use Rattle.pr_inval.specs.Standing.{Standing}
-use Rattle.pr_story.specs.Turns.{Turn, IsTurn}
-use Rattle.pr_story.specs.Lawful.{Valid}
+use Rattle.pr_story.specs.History.{NodeEntry}
 
 -- what is asked for: a write of a client with its name, body and gone, a read, a move to a node, an attach, a turn or a checkpoint of a stream,
 -- the delivery of a number, the end of a flow, and a cut, a drop, the conflicts and the state of a node
@@ -63,10 +60,3 @@ AreOfSameCommands (e ∷ h) (f ∷ g) =
     ((command : Command) × Gives command e.node e.entry.event × Gives command f.node f.entry.event × (e.entry.caller ≡ f.entry.caller)) × AreOfSameCommands h g
 AreOfSameCommands [] (f ∷ g) = ⊥
 AreOfSameCommands (e ∷ h) [] = ⊥
-
--- a stream has one turn
-abbrev pub OneTurn : Type 0
-OneTurn = (plan : Plan) (h : List NodeEntry) (n : ℕ) (session : Standing) (a b : Turn) → Valid plan h → IsTurn n (journal h n) session a → IsTurn n (journal h n) session b → a ≡ b
-
-abbrev pub CommandsDetermine : Type 0
-CommandsDetermine = (plan : Plan) (h g : List NodeEntry) → Valid plan h → Valid plan g → AreOfSameCommands h g → h ≡ g

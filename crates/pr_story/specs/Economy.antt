@@ -1,12 +1,11 @@
 -- How many invalidations a stream sends while its source hears nothing new.
-use Rattle.std.specs.Prelude.{ℕ, List, [], ◌∷◌, ◌++◌, ◌≡◌, ◌⊎◌, ◌≤◌, ◌+◌, ◌*◌, cond, nat_eq, ◌&&◌, length}
+use Rattle.std.specs.Prelude.{ℕ, List, [], ◌∷◌, ◌≡◌, ◌⊎◌, ◌+◌, cond, nat_eq, ◌&&◌}
 use Rattle.pr_inval.specs.declared.write_rec.WriteRec.{WriteRec}
 use Rattle.pr_story.specs.declared.event.Event.{Event}
 use Rattle.pr_story.specs.declared.event.Event.TheVariants.{Wrote, Sent, Accepted}
 use Rattle.pr_inval.specs.Points.{is_invalidation}
-use Rattle.pr_story.specs.History.{Plan, NodeEntry, journal}
-use Rattle.pr_story.specs.Turns.{Attaches, position, IsWriteToSend}
-use Rattle.pr_story.specs.Lawful.{Valid}
+use Rattle.pr_story.specs.History.{NodeEntry}
+use Rattle.pr_story.specs.Turns.{Attaches}
 
 abbrev pub IsNoNews : Event → Type 0
 IsNoNews (Wrote client write body after) = ⊥
@@ -30,10 +29,3 @@ invalidations (e ∷ t) s = counts_invalidation e.entry.event s (invalidations t
 abbrev pub IsAmong : WriteRec → List WriteRec → Type 0
 IsAmong x [] = ⊥
 IsAmong x (y ∷ ys) = (y ≡ x) ⊎ IsAmong x ys
-
--- where the list has all the writes that the stream has to send, at most twice as many invalidations and one more are sent
-abbrev pub FewInvalidations : Type 0
-FewInvalidations =
-    (plan : Plan) (h later : List NodeEntry) (s : ℕ) (ws : List WriteRec) → Valid plan (later ++ h) → IsQuiet (plan.stream s).source s later
-    → ((x : WriteRec) → IsWriteToSend (journal h (plan.stream s).source) (plan.stream s).names (position h s) x → IsAmong x ws)
-    → invalidations later s ≤ 2 * length ws + 1

@@ -9,7 +9,7 @@ use Rattle.pr_inval.specs.declared.msg.Msg.{Msg}
 use Rattle.pr_story.specs.declared.event.Event.{Event}
 use Rattle.pr_story.specs.declared.event.Event.TheVariants.{Wrote, Attached, Sent, Idle, Stale, Accepted, Gapped, Missing, Down, Answered, Behind, Moved, Cut, Dropped, Conflicts, State}
 use Rattle.pr_story.specs.declared.cause.Cause.{Cause}
-use Rattle.pr_story.specs.declared.cause.Cause.TheVariants.{Gap}
+use Rattle.pr_story.specs.declared.cause.Cause.TheVariants.{Failed, Ended, Gap}
 use Rattle.pr_inval.specs.Points.{from_of, to_of}
 use Rattle.pr_story.specs.declared.entry.Entry.{Entry}
 use Rattle.pr_names.specs.Span.{Span}
@@ -44,7 +44,15 @@ heard_time sessions (Sent msg) = (sessions msg.stream).time
 heard_time sessions (Idle stream) = (sessions stream).time
 heard_time sessions (Stale stream cut) = (sessions stream).time
 heard_time sessions (Down stream cause) = (sessions stream).time
-heard_time sessions _ = 0
+heard_time sessions (Wrote client write body after) = 0
+heard_time sessions (Missing stream number) = 0
+heard_time sessions (Answered client o answer at) = 0
+heard_time sessions (Behind client needs has) = 0
+heard_time sessions (Moved client) = 0
+heard_time sessions (Cut at) = 0
+heard_time sessions (Dropped o) = 0
+heard_time sessions (Conflicts o found) = 0
+heard_time sessions (State at cut floor precise) = 0
 
 -- ---- what a node's own journal says
 
@@ -80,9 +88,19 @@ module _ (Newest : List ℕ → Option Point → Type 0) (Gone : List ℕ → Po
       (at ≡ current_vector j) × (cut ≡ cuts_of j) × (floor ≡ floor_of j)
       × AllZip (λ set v. IsLastPrecise n j set v) (all_sets sets) precise
 
+-- at node n, by its journal in h: an answer is of the newest covered write of the world, and streams and clients are as h says
+abbrev pub MayComeByWorld : Plan → List NodeEntry → ℕ → ℕ → Event → Type 0
+MayComeByWorld plan h n time event =
+    MayCome (IsNewest h (current_vector (journal h n))) (IsGone h) (IsCoveredMark h (current_vector (journal h n)) (floor_of (journal h n)))
+    (standing plan h) (client_vector h) (plan.sets n) n (journal h n) time event
+
+-- by the journal alone: an answer is of the newest known write, for streams that stand so and clients that have seen these vectors
+abbrev pub MayComeByJournal : (ℕ → Standing) → (ℕ → List ℕ) → List (List Span) → ℕ → List Entry → ℕ → Event → Type 0
+MayComeByJournal sessions seen sets n j time event = MayCome (IsNewestKnown j) (KnowsGone j) (IsMark j) sessions seen sets n j time event
+
 -- ---- what the rest of the history says
 
--- the event is at its node
+-- the event is at its node; a client moves to any, and any may cut, drop, and tell of conflicts and its state
 abbrev pub IsPlaced : Plan → List NodeEntry → ℕ → Event → Type 0
 IsPlaced plan h n (Wrote client write body after) = n ≡ client_node plan h client
 IsPlaced plan h n (Answered client o answer at) = n ≡ client_node plan h client
@@ -95,7 +113,11 @@ IsPlaced plan h n (Down s cause) = n ≡ (plan.stream s).destination
 IsPlaced plan h n (Sent msg) = n ≡ (plan.stream msg.stream).source
 IsPlaced plan h n (Idle s) = n ≡ (plan.stream s).source
 IsPlaced plan h n (Stale s cut) = n ≡ (plan.stream s).source
-IsPlaced plan h n _ = Unit {0}
+IsPlaced plan h n (Moved client) = Unit {0}
+IsPlaced plan h n (Cut at) = Unit {0}
+IsPlaced plan h n (Dropped o) = Unit {0}
+IsPlaced plan h n (Conflicts o found) = Unit {0}
+IsPlaced plan h n (State at cut floor precise) = Unit {0}
 
 -- whether the last of the journal's events of the stream is a gap
 abbrev pub is_gap : Event → Bool
@@ -108,7 +130,8 @@ is_after_gap (e ∷ j) s = cond (is_of_stream e.event s) (is_gap e.event) (is_af
 
 abbrev pub DownAfter : Cause → Bool → Type 0
 DownAfter Gap after = IsTrue after
-DownAfter _ after = Unit {0}
+DownAfter Failed after = Unit {0}
+DownAfter Ended after = Unit {0}
 
 -- what the event at node n needs to have come before it
 abbrev pub HasCause : List NodeEntry → ℕ → Event → Type 0
@@ -119,7 +142,15 @@ HasCause h n (Accepted msg at) = WasSent h msg
 HasCause h n (Gapped msg has) = WasSent h msg
 HasCause h n (Missing s number) = (msg : Msg) → WasSent h msg → msg.stream ≡ s → msg.number ≢ number
 HasCause h n (Down s cause) = IsAttached h s × DownAfter cause (is_after_gap (journal h n) s)
-HasCause h n _ = Unit {0}
+HasCause h n (Wrote client write body after) = Unit {0}
+HasCause h n (Attached s at) = Unit {0}
+HasCause h n (Answered client o answer at) = Unit {0}
+HasCause h n (Behind client needs has) = Unit {0}
+HasCause h n (Moved client) = Unit {0}
+HasCause h n (Cut at) = Unit {0}
+HasCause h n (Dropped o) = Unit {0}
+HasCause h n (Conflicts o found) = Unit {0}
+HasCause h n (State at cut floor precise) = Unit {0}
 
 -- ---- valid histories
 
@@ -131,10 +162,7 @@ pub record IsLawful (plan : Plan) (h : List NodeEntry) (e : NodeEntry) : Type 0 
   pub in_range_caller : e.entry.caller < 2 ^ 32
   pub placed : IsPlaced plan h e.node e.entry.event
   pub cause : HasCause h e.node e.entry.event
-  pub may_come : MayCome (λ o. IsNewest h (current_vector (journal h e.node)) o)
-      (λ o. IsGone h o)
-      (λ o. IsCoveredMark h (current_vector (journal h e.node)) (floor_of (journal h e.node)) o)
-      (standing plan h) (client_vector h) (plan.sets e.node) e.node (journal h e.node) e.entry.time e.entry.event
+  pub may_come : MayComeByWorld plan h e.node e.entry.time e.entry.event
   pub time : e.entry.time ≡ max (last_time (journal h e.node)) (heard_time (standing plan h) e.entry.event) + 1
 
 -- the entry is lawful after the node's own journal, for streams that stand so and clients that have seen these vectors
@@ -142,7 +170,7 @@ pub record IsOwnLawful (sessions : ℕ → Standing) (seen : ℕ → List ℕ) (
   pub in_range : IsInRange e.event
   pub in_range_time : e.time < 2 ^ 64
   pub in_range_caller : e.caller < 2 ^ 32
-  pub may_come : MayCome (IsNewestKnown j) (KnowsGone j) (IsMark j) sessions seen sets n j e.time e.event
+  pub may_come : MayComeByJournal sessions seen sets n j e.time e.event
   pub time : e.time ≡ max (last_time j) (heard_time sessions e.event) + 1
 
 abbrev pub Valid : Plan → List NodeEntry → Type 0

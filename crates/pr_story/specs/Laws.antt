@@ -1,12 +1,11 @@
 -- What holds of every valid history, at each of its places.
-use Rattle.std.specs.Prelude.{ℕ, List, [], ◌∷◌, ◌++◌, ◌≡◌, ◌⊎◌, ◌≤◌, ◌<◌, ◌+◌, ◌↔◌, Bool, false, Option, Some, length, IsTrue}
+use Rattle.std.specs.Prelude.{ℕ, List, [], ◌∷◌, ◌≡◌, ◌⊎◌, ◌≤◌, ◌<◌, ◌+◌, ◌↔◌, Bool, false, Option, Some, length}
 use Rattle.pr_stamps.specs.Point.{Point}
 use Rattle.pr_stamps.specs.declared.mark.Mark.{Mark}
 use Rattle.pr_vectors.specs.Vector.{Covers, Le}
 use Rattle.pr_inval.specs.declared.imprecise.Imprecise.{Imprecise as Invalidation}
 use Rattle.pr_inval.specs.declared.kind.Kind.TheVariants.{Imprecise}
 use Rattle.pr_inval.specs.declared.msg.Msg.{Msg}
-use Rattle.pr_inval.specs.Merging.{AreAdjacent, IsMerged, Rises}
 use Rattle.pr_inval.specs.declared.write_rec.WriteRec.{WriteRec}
 use Rattle.pr_story.specs.declared.reply.Reply.{Reply}
 use Rattle.pr_story.specs.declared.reply.Reply.TheVariants as reply
@@ -16,10 +15,9 @@ use Rattle.pr_story.specs.History.{Plan, NodeEntry, SomeEvent, entries, journal,
 use Rattle.pr_story.specs.Told.{set_of, IsPrecise, IsLit}
 use Rattle.pr_story.specs.Knowledge.{Knows, IsAnswer, IsNewest, IsNewestKnown, WasNamed, KnowsGone, IsGone, IsMark, IsCoveredMark, floor_of, held_body}
 use Rattle.pr_story.specs.Messages.{IsHonest, IsUseful}
-use Rattle.pr_story.specs.Clients.{is_with_needs, client_vector}
 use Rattle.pr_inval.specs.Standing.{Standing}
-use Rattle.pr_story.specs.Turns.{is_with_session, position, sent_count, stream_time, has_sent}
-use Rattle.pr_story.specs.Lawful.{last_time, IsPlaced, HasCause, IsOwnLawful, Valid}
+use Rattle.pr_story.specs.Turns.{position, sent_count, stream_time, has_sent}
+use Rattle.pr_story.specs.Lawful.{last_time}
 
 -- what holds of each place of a valid history
 pub record Facts (plan : Plan) (h : List NodeEntry) : Type 0 where
@@ -81,16 +79,6 @@ pub record StandsFor (plan : Plan) (h : List NodeEntry) (s : ℕ) (session : Sta
   pub time : session.time ≡ stream_time h s
   pub sent : (o : List ℕ) (t : Point) → session.sent o t ≡ has_sent h s o t
 
--- what the node's own journal allows, at its node and with its cause, is lawful
-abbrev pub OneMore : Type 0
-OneMore =
-    (plan : Plan) (h : List NodeEntry) (e : NodeEntry) (sessions : ℕ → Standing) (seen : ℕ → List ℕ) → Valid plan h
-    → ((s : ℕ) → IsTrue (is_with_session e.entry.event s) → StandsFor plan h s (sessions s))
-    → ((c : ℕ) → IsTrue (is_with_needs e.entry.event c) → seen c ≡ client_vector h c)
-    → e.node < 32 → IsPlaced plan h e.node e.entry.event → HasCause h e.node e.entry.event
-    → IsOwnLawful sessions seen (plan.sets e.node) e.node (journal h e.node) e.entry
-    → Valid plan (e ∷ h)
-
 -- ---- clients
 
 -- the client's write or answer, and its node's vector
@@ -120,12 +108,6 @@ abbrev pub IsLate : Event → ℕ → Type 0
 IsLate (Behind client needs has) c = client ≡ c
 IsLate _ c = ⊥
 
--- a client that never moves is never behind: its node knows at least what it has seen
-abbrev pub NeverBehind : Type 0
-NeverBehind =
-    (plan : Plan) (h : List NodeEntry) (c : ℕ) → Valid plan h → ¬ SomeEvent (λ event. Moves event c) (entries h)
-    → Le (client_vector h c) (current_vector (journal h (plan.home c))) × ¬ SomeEvent (λ event. IsLate event c) (entries h)
-
 -- ---- answers
 
 -- two answers that say the same of a name, but that one may lack the body; both are Gone or neither is
@@ -147,13 +129,6 @@ AreAlike (reply.Body s) (reply.Body t) = s ≡ t
 abbrev pub IsAnswerOf : Plan → List NodeEntry → ℕ → List ℕ → Reply → Type 0
 IsAnswerOf plan h n o answer = IsAnswer (IsNewest h (current_vector (journal h n)) o) (IsGone h o) (plan.sets n) n (journal h n) o answer
 
--- what two nodes with equal vectors may answer is alike, at any two places
-abbrev pub NodesAnswerAlike : Type 0
-NodesAnswerAlike =
-    (plan : Plan) (h later : List NodeEntry) (n m : ℕ) (o : List ℕ) (a b : Reply) → Valid plan (later ++ h)
-    → current_vector (journal h n) ≡ current_vector (journal (later ++ h) m)
-    → IsAnswerOf plan h n o a → IsAnswerOf plan (later ++ h) m o b → AreAlike a b
-
 -- the event answers a read of the name so, where the node's vector is this
 abbrev pub Answers : Event → List ℕ → Reply → List ℕ → Type 0
 Answers (Answered client name answer at) o a v = (name ≡ o) × (answer ≡ a) × (at ≡ v)
@@ -170,9 +145,3 @@ AnswersAlike (e ∷ h) =
 
 abbrev pub IsHonestInvalidation : List NodeEntry → Invalidation → Type 0
 IsHonestInvalidation h a = IsHonest h (Imprecise a.from a.to a.target)
-
--- what two honest imprecise invalidations merge into, of which one ends where the other starts, is honest
-abbrev pub MergesAreHonest : Plan → List NodeEntry → Type 0
-MergesAreHonest plan h =
-    (a b merged : Invalidation) → AreAdjacent a b → Rises a → Rises b → IsMerged a b merged
-    → IsHonestInvalidation h a → IsHonestInvalidation h b → IsHonestInvalidation h merged

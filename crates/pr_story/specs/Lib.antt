@@ -25,3 +25,4 @@ pub mod Remaining
 pub mod OneThread
 pub mod Phases
 pub mod Statements
+pub mod Worked

@@ -3,8 +3,7 @@ use Rattle.std.specs.Prelude.{List, [], ◌∷◌, ◌≡◌}
 use Rattle.pr_inval.specs.declared.msg.Msg.{Msg}
 use Rattle.pr_story.specs.declared.event.Event.{Event}
 use Rattle.pr_story.specs.declared.event.Event.TheVariants.{Sent, Accepted, Gapped}
-use Rattle.pr_story.specs.History.{Plan, NodeEntry}
-use Rattle.pr_story.specs.Lawful.{Valid}
+use Rattle.pr_story.specs.History.{NodeEntry}
 
 abbrev pub IsSameNumber : Msg → Msg → Type 0
 IsSameNumber a b = (a.stream ≡ b.stream) × (a.number ≡ b.number)
@@ -25,6 +24,3 @@ HaveSameLines (e ∷ h) [] = ⊥
 abbrev pub without_callers : List NodeEntry → List NodeEntry
 without_callers [] = []
 without_callers (e ∷ h) = record { node = e.node; entry = record { time = e.entry.time; caller = 0; event = e.entry.event } } ∷ without_callers h
-
-abbrev pub LinesDetermine : Type 0
-LinesDetermine = (plan : Plan) (h g : List NodeEntry) → Valid plan h → Valid plan g → HaveSameLines h g → without_callers h ≡ without_callers g

@@ -7,7 +7,7 @@ use Rattle.pr_story.specs.History.{Plan, NodeEntry, journal}
 use Rattle.pr_story.specs.Clients.{is_of_client, is_with_needs, client_vector}
 use Rattle.pr_inval.specs.Standing.{Standing}
 use Rattle.pr_story.specs.Turns.{is_of_stream, is_with_session}
-use Rattle.pr_story.specs.Lawful.{IsPlaced, HasCause, IsOwnLawful, Valid}
+use Rattle.pr_story.specs.Lawful.{IsPlaced, HasCause, IsOwnLawful}
 use Rattle.pr_story.specs.Laws.{StandsFor}
 
 -- a new entry, its job, and how its stream stood and what its client had seen for that job when it was made
@@ -59,9 +59,3 @@ AreApart streams clients (x ∷ t) =
     × ((s : ℕ) → IsTrue (is_of_stream x.made.entry.event s) → x.job ≡ streams s)
     × ((c : ℕ) → IsTrue (is_of_client x.made.entry.event c) → x.job ≡ clients c))
     × AreApart streams clients t
-
-abbrev pub Merges : Type 0
-Merges =
-    (plan : Plan) (h : List NodeEntry) (new : List New) (streams clients : ℕ → ℕ) → Valid plan h
-    → ((n : ℕ) → IsNodeRun plan h n (of_node new n)) → ((k : ℕ) → IsJobRun plan h (of_job new k)) → AreApart streams clients new
-    → Valid plan (plain new ++ h)

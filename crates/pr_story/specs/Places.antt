@@ -11,6 +11,17 @@ abbrev pub places_of : List NodeEntry → List (ℕ × ℕ)
 places_of [] = []
 places_of (e ∷ h) = places_of h ++ (e.node, length (journal h e.node)) ∷ []
 
+-- the list, which has its oldest entry first, has this one at this place
+abbrev pub IsAt : List Entry → ℕ → Entry → Type 0
+IsAt entries place e = (place < length entries) × ((d : Entry) → get_or entries place d ≡ e)
+
+-- the k-th entry of the history, the oldest first, stands at the k-th place: in the journal of its node
+pub record EntriesHavePlaces (h : List NodeEntry) : Type 0 where
+  pub many : length (places_of h) ≡ length h
+  pub node : (k : ℕ) (p : ℕ × ℕ) (d : NodeEntry) → k < length h → (get_or (places_of h) k p).0 ≡ (get_or (reverse h) k d).node
+  pub at : (k : ℕ) (p : ℕ × ℕ) (d : NodeEntry) → k < length h
+      → IsAt (reverse (journal h (get_or (places_of h) k p).0)) (get_or (places_of h) k p).1 (get_or (reverse h) k d).entry
+
 abbrev pub sent_after : Event → ℕ → ℕ → List ℕ → List ℕ
 sent_after (Sent msg) s place places = cond (nat_eq msg.stream s) (places ++ place ∷ []) places
 sent_after _ s place places = places

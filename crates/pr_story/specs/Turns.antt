@@ -17,7 +17,6 @@ use Rattle.pr_story.specs.declared.event.Event.{Event}
 use Rattle.pr_story.specs.declared.event.Event.TheVariants.{Attached, Sent, Idle, Stale, Accepted, Gapped, Missing, Down}
 use Rattle.pr_inval.specs.Points.{to_of, is_this}
 use Rattle.pr_inval.specs.Standing.{Standing}
-use Rattle.pr_inval.specs.Targets.{IsTargetFor}
 use Rattle.pr_story.specs.declared.entry.Entry.{Entry}
 use Rattle.pr_story.specs.History.{Plan, NodeEntry, SomeEvent, entries, current_vector}
 use Rattle.pr_story.specs.Told.{set_of, IsPrecise, IsDarkBetween}
@@ -148,13 +147,6 @@ IsTarget n j names v w target =
     (IsSetOf target (IsWithheld n j names v w) × (length target ≤ 16))
     ⊎ (((fine : List Span) → IsSetOf fine (IsWithheld n j names v w) → 16 < length fine)
     × IsSetOf target (λ o. (has names o ≡ false) ⊎ IsDarkBetween n j v w o))
-
--- the target that is made of the dark names and the omitted ones is this target
-abbrev pub TargetsMeet : Type 0
-TargetsMeet =
-    (n : ℕ) (j : List Entry) (names : List Span) (v w : List ℕ) (dark omitted target : List Span)
-    → IsSetOf dark (IsDarkBetween n j v w) → IsSetOf omitted (IsOmitted j names v w)
-    → IsTargetFor omitted dark names target → IsTarget n j names v w target
 
 -- ---- turns
 

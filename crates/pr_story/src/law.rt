@@ -1,14 +1,11 @@
 // What holds of every valid history. Each law is the contract of a function that does nothing.
-ghost use Rattle.pr_story.specs.Commands.{CommandsDetermine, OneTurn};
-ghost use Rattle.pr_story.specs.Economy.{FewInvalidations};
 ghost use Rattle.pr_story.specs.History.{NodeEntry, Plan};
 ghost use Rattle.pr_story.specs.Lawful.{Valid};
-ghost use Rattle.pr_story.specs.Laws.{AnswersAlike, FactsThroughout, IsShort, MergesAreHonest, NeverBehind, NodesAnswerAlike, NoneGoesBack, OneMore, SentUseful};
-ghost use Rattle.pr_story.specs.Lines.{LinesDetermine};
-ghost use Rattle.pr_story.specs.Merging.{Merges};
-ghost use Rattle.pr_story.specs.Places.{SentHavePlaces};
-ghost use Rattle.pr_story.specs.Statements.{HonestKeepsClosed, JobsAreRuns, LessIsLeft, MarkedIsBegun, MarkedPhases, NamelessIsTold, NothingBegins, PhaseJobsMerge, ReadsAreSo, ScriptDetermines, SettlesSettle, SettlesTell, HistoriesName, StaysInTime, WholeIsBegun};
-ghost use Rattle.pr_story.specs.Turns.{TargetsMeet};
+ghost use Rattle.pr_story.specs.Laws.{AnswersAlike, FactsThroughout, IsShort, NoneGoesBack, SentUseful};
+ghost use Rattle.pr_story.specs.Places.{EntriesHavePlaces, SentHavePlaces};
+ghost use Rattle.pr_story.specs.Statements.{HonestKeepsClosed, JobsAreRuns, LessIsLeft, MarkedIsBegun, MarkedPhases, NamelessIsTold, NothingBegins, PhaseJobsMerge, ReadsAreSo, ScriptDetermines, SettlesSettle, SettlesTell, HistoriesName, StaysInTime, WholeIsBegun, MergesAreHonest, NeverBehind, NodesAnswerAlike, OneMore, CommandsDetermine, OneTurn, FewInvalidations, LinesDetermine, Merges, TargetsMeet};
+ghost use Rattle.pr_story.specs.Counts.{IsHistory};
+ghost use Rattle.pr_story.specs.Worked.{read_again, two_declared, two_nodes};
 ghost use Rattle.std.specs.Prelude.{List, ℕ};
 
 /// At every place of a valid history each node's vector is causally closed, no node is told more of a writer than the
@@ -79,9 +76,9 @@ pub fn lines_determine_the_history()
     ensures { LinesDetermine }
 {}
 
-/// What two honest imprecise invalidations merge into is honest.
+/// What two honest imprecise invalidations merge into is honest, whether the history is valid or not.
 pub fn merged_messages_are_honest()
-    ensures { (plan : Plan) (h : List NodeEntry) → Valid plan h → MergesAreHonest plan h }
+    ensures { MergesAreHonest }
 {}
 
 /// While its source hears nothing new and it is not attached anew, a stream sends at most twice as many invalidations
@@ -114,6 +111,11 @@ pub fn histories_name_what_is_declared()
 /// Each message that was sent stands at a place of its source's journal, and a stream's messages are numbered from 1.
 pub fn sent_messages_have_places()
     ensures { (plan : Plan) (h : List NodeEntry) (s : ℕ) → Valid plan h → SentHavePlaces plan h s }
+{}
+
+/// The k-th entry of a history stands at the k-th of its places, in the journal of its node.
+pub fn entries_have_places()
+    ensures { (h : List NodeEntry) → EntriesHavePlaces h }
 {}
 
 /// From its attach on, while each of its messages is taken as it comes, a stream's position is at most its
@@ -172,4 +174,10 @@ pub fn marked_phases_are_phases()
 /// A run that ended in a phase of which some jobs are known to be whole is a run that ended at some place.
 pub fn marked_runs_are_begun()
     ensures { MarkedIsBegun }
+{}
+
+/// There are histories: one in which a write and its message reach a second node, whose client then moves,
+/// deletes, and comes back after a cut and the checkpoint that it makes needed.
+pub fn worked_histories_are_valid()
+    ensures { IsHistory two_nodes two_declared read_again }
 {}

@@ -1,28 +1,29 @@
 -- The jobs of a phase are apart: each has a client or a stream of its own.
-use Rattle.std.proofs.Common.{◌≡◌, ℕ, suc, ◌+◌, Bool, true, false, not, ◌||◌, cond, List, [], ◌∷◌, ◌++◌, length, map, Option, Some, None, refl, sym, ap, subst, ◌∙◌, inl, inr, append_assoc, arith, length-append}
+use Rattle.std.proofs.Common.{◌≡◌, ℕ, ◌+◌, Bool, true, false, not, ◌||◌, cond, List, [], ◌∷◌, ◌++◌, length, map, Option, Some, None, refl, sym, ap, subst, ◌∙◌, inl, inr, append_assoc, arith, length-append}
 use Rattle.std.specs.Prelude.{◌⊎◌, nat_eq, ◌==◌, IsTrue, filter, reverse}
-use Rattle.std.specs.List.{AllByRecursion, list_any, fold, flat_map, position_or_len}
+use Rattle.std.specs.List.{AllByRecursion, fold, flat_map, position_or_len}
 use Rattle.std.proofs.lemmas.Bool.Decides.{nat_tests}
 use Rattle.std.proofs.lemmas.List.{reverse-append, reverse-reverse, append-nil}
 use Rattle.pr_script.specs.declared.command.Command.{Command}
 use Rattle.pr_script.specs.declared.command.Command.TheVariants as commands
 use Rattle.pr_script.specs.declared.decl.Decl.{Decl}
-use Rattle.pr_script.specs.declared.script.Script.{Script}
-use Rattle.pr_script.specs.Good.{IsGood, IsGoodJobLine, IsGoodPhase, AreGoodSteps}
-use Rattle.pr_script.specs.Known.{has_number, with_number, without_number, attached_after, is_read}
-use Rattle.pr_script.specs.Steps.{Numbered, Step, Alone, Phase, Owner, OfClient, OfStream, is_owner, owner_of, has_owner, with_owner, owners_of, steps_of}
+use Rattle.pr_script.specs.Good.{IsGoodJobLine, IsGoodPhase, AreGoodSteps}
+use Rattle.pr_script.specs.Known.{has_number, without_number, attached_after, is_read}
+use Rattle.pr_script.specs.declared.owner.Owner.{Owner}
+use Rattle.pr_script.specs.declared.owner.Owner.TheVariants as owner
+use Rattle.pr_script.specs.Steps.{Numbered, Step, Alone, Phase, is_same_owner, owner_of, has_owner, with_owner, owners_of}
 use Rattle.pr_script.proofs.GoodScripts.{any_more}
 use Rattle.pr_story.specs.Commands as story
 use Rattle.pr_story.specs.declared.event.Event.{Event}
 use Rattle.pr_story.specs.declared.event.Event.TheVariants.{Attached}
-use Rattle.pr_story.specs.History.{NodeEntry, entries}
+use Rattle.pr_story.specs.History.{NodeEntry}
 use Rattle.pr_story.specs.Phases.{AreCommandsOf, AreApartJobs}
 use Rattle.pr_story.specs.Scripts as scripts
 use Rattle.pr_story.specs.Scripts.{Order, LineGives, AreOfLines}
 use Rattle.pr_story.specs.Turns.{Attaches, IsAttached}
 use Rattle.pr_text.specs.Histories.{streams_of}
 use Rattle.pr_text.specs.Laws.{PhasesAreApart, ScriptsHaveApartJobs}
-use Rattle.pr_text.specs.Steps.{line_of, single_of, is_owned_by, lines_by, job_of, jobs_of, client_job, stream_job, step_line}
+use Rattle.pr_text.specs.Steps.{line_of, single_of, is_owned_by, lines_by, job_of, client_job, stream_job, step_line}
 
 -- ---- owners
 
@@ -32,22 +33,22 @@ same_number a b h = grind (arith, nat_tests)
 self_number : (a : ℕ) → nat_eq a a ≡ true
 self_number a = grind (arith, nat_tests)
 
-owner_is : (o p : Owner) → is_owner o p ≡ true → o ≡ p
-owner_is (OfClient a) (OfClient b) h = ap (λ (x : ℕ). OfClient x) (same_number a b h)
-owner_is (OfStream a) (OfStream b) h = ap (λ (x : ℕ). OfStream x) (same_number a b h)
-owner_is (OfClient a) (OfStream b) h = absurd cc
-owner_is (OfStream a) (OfClient b) h = absurd cc
+owner_is : (o p : Owner) → is_same_owner o p ≡ true → o ≡ p
+owner_is (owner.Client a) (owner.Client b) h = ap (λ (x : ℕ). owner.Client x) (same_number a b h)
+owner_is (owner.Stream a) (owner.Stream b) h = ap (λ (x : ℕ). owner.Stream x) (same_number a b h)
+owner_is (owner.Client a) (owner.Stream b) h = absurd cc
+owner_is (owner.Stream a) (owner.Client b) h = absurd cc
 
-owner_self : (o : Owner) → is_owner o o ≡ true
-owner_self (OfClient a) = self_number a
-owner_self (OfStream a) = self_number a
+owner_self : (o : Owner) → is_same_owner o o ≡ true
+owner_self (owner.Client a) = self_number a
+owner_self (owner.Stream a) = self_number a
 
-owner_back : (o p : Owner) → is_owner o p ≡ false → is_owner p o ≡ false
-owner_back o p h = turned (is_owner p o) refl
+owner_back : (o p : Owner) → is_same_owner o p ≡ false → is_same_owner p o ≡ false
+owner_back o p h = turned (is_same_owner p o) refl
   where
-    turned : (t : Bool) → is_owner p o ≡ t → t ≡ false
+    turned : (t : Bool) → is_same_owner p o ≡ t → t ≡ false
     turned false e = refl
-    turned true e = absurd (let s : is_owner o p ≡ true = subst (λ (x : Owner). is_owner x p ≡ true) (owner_is p o e) (owner_self p) in let u = sym s ∙ h in cc)
+    turned true e = absurd (let s : is_same_owner o p ≡ true = subst (λ (x : Owner). is_same_owner x p ≡ true) (owner_is p o e) (owner_self p) in let u = sym s ∙ h in cc)
 
 neither : (a b : Bool) → (a || b) ≡ false → (a ≡ false) × (b ≡ false)
 neither false b h = (refl, h)
@@ -61,8 +62,8 @@ Differ (o ∷ os) = (has_owner os o ≡ false) × Differ os
 differ_more : (os : List Owner) (o : Owner) → Differ os → has_owner os o ≡ false → Differ (os ++ o ∷ [])
 differ_more [] o h n = (refl, tt)
 differ_more (q ∷ os) o h n =
-    let p = neither (is_owner q o) (has_owner os o) n in
-    (any_more (λ x. is_owner x q) os o ∙ (ap (λ (b : Bool). b || is_owner o q) h.0 ∙ owner_back q o p.0), differ_more os o h.1 p.1)
+    let p = neither (is_same_owner q o) (has_owner os o) n in
+    (any_more (λ x. is_same_owner x q) os o ∙ (ap (λ (b : Bool). b || is_same_owner o q) h.0 ∙ owner_back q o p.0), differ_more os o h.1 p.1)
 
 with_if : (t : Bool) (os : List Owner) (o : Owner) → has_owner os o ≡ t → Differ os → Differ (cond t os (os ++ o ∷ []))
 with_if true os o e h = h
@@ -77,21 +78,21 @@ all_differ os [] h = h
 all_differ os (c ∷ cs) h = all_differ (with_owner os (owner_of c.1)) cs (with_differ os (owner_of c.1) h)
 
 -- the first of them that is this one is itself
-in_middle : (front : List Owner) (os : List Owner) (o q : Owner) → has_owner (front ++ o ∷ os) q ≡ false → is_owner o q ≡ false
-in_middle [] os o q h = (neither (is_owner o q) (has_owner os q) h).0
-in_middle (p ∷ front) os o q h = in_middle front os o q ((neither (is_owner p q) (has_owner (front ++ o ∷ os) q) h).1)
+in_middle : (front : List Owner) (os : List Owner) (o q : Owner) → has_owner (front ++ o ∷ os) q ≡ false → is_same_owner o q ≡ false
+in_middle [] os o q h = (neither (is_same_owner o q) (has_owner os q) h).0
+in_middle (p ∷ front) os o q h = in_middle front os o q ((neither (is_same_owner p q) (has_owner (front ++ o ∷ os) q) h).1)
 
-place_is : (front os : List Owner) (o : Owner) → Differ (front ++ o ∷ os) → position_or_len (λ p. is_owner p o) (front ++ o ∷ os) ≡ length front
-place_is [] os o h = ap (λ (b : Bool). cond (not b) (1 + position_or_len (λ p. is_owner p o) os) 0) (owner_self o)
+place_is : (front os : List Owner) (o : Owner) → Differ (front ++ o ∷ os) → position_or_len (λ p. is_same_owner p o) (front ++ o ∷ os) ≡ length front
+place_is [] os o h = ap (λ (b : Bool). cond (not b) (1 + position_or_len (λ p. is_same_owner p o) os) 0) (owner_self o)
 place_is (q ∷ front) os o h =
-    ap (λ (b : Bool). cond (not b) (1 + position_or_len (λ p. is_owner p o) (front ++ o ∷ os)) 0) (owner_back o q (in_middle front os o q h.0))
+    ap (λ (b : Bool). cond (not b) (1 + position_or_len (λ p. is_same_owner p o) (front ++ o ∷ os)) 0) (owner_back o q (in_middle front os o q h.0))
     ∙ (let p = place_is front os o h.1 in omega (arith, p))
 
 -- ---- a stream that flows is attached
 
 abbrev IsReadyOwner : List ℕ → Owner → Type 0
-IsReadyOwner attached (OfClient client) = Unit {0}
-IsReadyOwner attached (OfStream stream) = IsTrue (has_number attached stream)
+IsReadyOwner attached (owner.Client client) = Unit {0}
+IsReadyOwner attached (owner.Stream stream) = IsTrue (has_number attached stream)
 
 abbrev IsReadyIfAny : List ℕ → Option Owner → Type 0
 IsReadyIfAny attached None = Unit {0}
@@ -124,20 +125,20 @@ commands_more : (c : ℕ) (xs ys : List story.Command) → AreCommandsOf c xs �
 commands_more c [] ys h g = g
 commands_more c (x ∷ xs) ys h g = (h.0, commands_more c xs ys h.1 g)
 
-line_asks : (client : ℕ) (c : Command) → is_owned_by (OfClient client) (owner_of c) ≡ true → AreCommandsOf client (single_of (line_of c))
+line_asks : (client : ℕ) (c : Command) → is_owned_by (owner.Client client) (owner_of c) ≡ true → AreCommandsOf client (single_of (line_of c))
 line_asks client (commands.Write c name body) h = (same_number c client h, tt)
 line_asks client (commands.Delete c name) h = (same_number c client h, tt)
 line_asks client (commands.Read c name) h = (same_number c client h, tt)
 line_asks client c h = absurd cc
 
-asked_if : (client : ℕ) (t : Bool) (c : Numbered) (cs : List Numbered) → is_owned_by (OfClient client) (owner_of c.1) ≡ t
+asked_if : (client : ℕ) (t : Bool) (c : Numbered) (cs : List Numbered) → is_owned_by (owner.Client client) (owner_of c.1) ≡ t
     → AreCommandsOf client (flat_map (λ (x : Numbered). single_of (line_of x.1)) cs) → AreCommandsOf client (flat_map (λ (x : Numbered). single_of (line_of x.1)) (cond t (c ∷ cs) cs))
 asked_if client true c cs e h = commands_more client (single_of (line_of c.1)) (flat_map (λ (x : Numbered). single_of (line_of x.1)) cs) (line_asks client c.1 e) h
 asked_if client false c cs e h = h
 
-all_asked : (client : ℕ) (cs : List Numbered) → AreCommandsOf client (flat_map (λ (x : Numbered). single_of (line_of x.1)) (lines_by (OfClient client) cs))
+all_asked : (client : ℕ) (cs : List Numbered) → AreCommandsOf client (flat_map (λ (x : Numbered). single_of (line_of x.1)) (lines_by (owner.Client client) cs))
 all_asked client [] = tt
-all_asked client (c ∷ cs) = asked_if client (is_owned_by (OfClient client) (owner_of c.1)) c (lines_by (OfClient client) cs) refl (all_asked client cs)
+all_asked client (c ∷ cs) = asked_if client (is_owned_by (owner.Client client) (owner_of c.1)) c (lines_by (owner.Client client) cs) refl (all_asked client cs)
 
 -- ---- job by job
 
@@ -145,20 +146,20 @@ jobs_apart : (attached : List ℕ) (inside : List Numbered) (h : List NodeEntry)
     → AllByRecursion (IsReadyOwner attached) os → ((s : ℕ) → IsTrue (has_number attached s) → IsAttached h s)
     → AreApartJobs h (stream_job inside) (client_job inside) (map (job_of inside) os) k
 jobs_apart attached inside h front [] k e n differ ready so = tt
-jobs_apart attached inside h front (OfClient client ∷ os) k e n differ ready so = (
+jobs_apart attached inside h front (owner.Client client ∷ os) k e n differ ready so = (
   (
     client,
     all_asked client inside,
-    ap (λ (x : List Owner). position_or_len (λ p. is_owner p (OfClient client)) x) e ∙ (place_is front os (OfClient client) (subst Differ e differ) ∙ sym n),
+    ap (λ (x : List Owner). position_or_len (λ p. is_same_owner p (owner.Client client)) x) e ∙ (place_is front os (owner.Client client) (subst Differ e differ) ∙ sym n),
   ),
-  jobs_apart attached inside h (front ++ OfClient client ∷ []) os (k + 1) (e ∙ sym (append_assoc front (OfClient client ∷ []) os)) (let l = length-append front (OfClient client ∷ []) in omega (arith, l, n)) differ ready.1 so,
+  jobs_apart attached inside h (front ++ owner.Client client ∷ []) os (k + 1) (e ∙ sym (append_assoc front (owner.Client client ∷ []) os)) (let l = length-append front (owner.Client client ∷ []) in omega (arith, l, n)) differ ready.1 so,
 )
-jobs_apart attached inside h front (OfStream stream ∷ os) k e n differ ready so = (
+jobs_apart attached inside h front (owner.Stream stream ∷ os) k e n differ ready so = (
   (
     so stream ready.0,
-    ap (λ (x : List Owner). position_or_len (λ p. is_owner p (OfStream stream)) x) e ∙ (place_is front os (OfStream stream) (subst Differ e differ) ∙ sym n),
+    ap (λ (x : List Owner). position_or_len (λ p. is_same_owner p (owner.Stream stream)) x) e ∙ (place_is front os (owner.Stream stream) (subst Differ e differ) ∙ sym n),
   ),
-  jobs_apart attached inside h (front ++ OfStream stream ∷ []) os (k + 1) (e ∙ sym (append_assoc front (OfStream stream ∷ []) os)) (let l = length-append front (OfStream stream ∷ []) in omega (arith, l, n)) differ ready.1 so,
+  jobs_apart attached inside h (front ++ owner.Stream stream ∷ []) os (k + 1) (e ∙ sym (append_assoc front (owner.Stream stream ∷ []) os)) (let l = length-append front (owner.Stream stream ∷ []) in omega (arith, l, n)) differ ready.1 so,
 )
 
 pub phases_apart : PhasesAreApart

@@ -1,11 +1,10 @@
 -- The lists of entries that lines give, joined, are the entries of the lines.
-use Rattle.std.proofs.Common.{◌≡◌, ℕ, Bool, true, false, List, [], ◌∷◌, ◌++◌, Option, refl, sym, ap, subst, ◌∙◌}
-use Rattle.std.specs.Prelude.{reverse, filter}
+use Rattle.std.proofs.Common.{◌≡◌, ℕ, Bool, false, List, [], ◌∷◌, refl, sym, ap, subst, ◌∙◌}
+use Rattle.std.specs.Prelude.{reverse}
 use Rattle.std.proofs.lemmas.List.{reverse-reverse}
-use Rattle.pr_script.specs.declared.script.Script.{Script}
 use Rattle.pr_story.specs.History.{NodeEntry}
 use Rattle.pr_story.specs.Scripts.{Line, Order, AreOfLines, attached_after}
-use Rattle.pr_text.specs.Histories.{EachGives, IsRunOf, joined, streams_of}
+use Rattle.pr_text.specs.Histories.{EachGives, joined, streams_of}
 use Rattle.pr_text.specs.Laws.{RunsAreHistories}
 use Rattle.pr_text.specs.Steps.{lines_of}
 

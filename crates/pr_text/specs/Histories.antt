@@ -21,7 +21,7 @@ use Rattle.pr_story.specs.Phases.{IsBegunAs}
 use Rattle.pr_story.specs.Scripts.{Line, Order, LineGives, IsOfScript, IsBegunOf, attached_after}
 use Rattle.pr_text.specs.Endings.{ok_line}
 use Rattle.pr_text.specs.Heads.{heads_text}
-use Rattle.pr_text.specs.Steps.{step_line, lines_of}
+use Rattle.pr_text.specs.Steps.{lines_of}
 use Rattle.pr_text.specs.Transcripts.{lines_text}
 
 -- ---- the history

@@ -1,10 +1,12 @@
 -- What a script's steps are in its history: each command's line, and each phase's jobs.
-use Rattle.std.specs.Prelude.{ℕ, List, [], ◌∷◌, map, nat_eq, cond, filter, Bool, true, false, Option, Some, None}
+use Rattle.std.specs.Prelude.{ℕ, List, [], ◌∷◌, map, filter, Bool, true, false, Option, Some, None}
 use Rattle.std.specs.List.{flat_map, position_or_len}
 use Rattle.pr_script.specs.declared.command.Command.{Command}
 use Rattle.pr_script.specs.declared.command.Command.TheVariants as commands
 use Rattle.pr_script.specs.Steps as script
-use Rattle.pr_script.specs.Steps.{Numbered, Step, Owner, OfClient, OfStream, is_owner, owner_of, owners_of, steps_of, turns_in}
+use Rattle.pr_script.specs.declared.owner.Owner.{Owner}
+use Rattle.pr_script.specs.declared.owner.Owner.TheVariants as owner
+use Rattle.pr_script.specs.Steps.{Numbered, Step, is_same_owner, owner_of, owners_of, steps_of, turns_in}
 use Rattle.pr_story.specs.Commands as story
 use Rattle.pr_story.specs.Scripts.{Job, ClientJob, FlowJob, Line, Single, Expect, Detach, Flow, Settle, Phase}
 
@@ -38,17 +40,17 @@ single_of (Single command) = command ∷ []
 single_of line = []
 
 abbrev pub is_owned_by : Owner → Option Owner → Bool
-is_owned_by owner None = false
-is_owned_by owner (Some other) = is_owner other owner
+is_owned_by mine None = false
+is_owned_by mine (Some other) = is_same_owner other mine
 
 -- the lines of one job, in their order
 abbrev pub lines_by : Owner → List Numbered → List Numbered
-lines_by owner inside = filter (λ (c : Numbered). is_owned_by owner (owner_of c.1)) inside
+lines_by mine inside = filter (λ (c : Numbered). is_owned_by mine (owner_of c.1)) inside
 
 -- a client's job is what its lines ask for, and a stream's is the turns of its flow
 abbrev pub job_of : List Numbered → Owner → Job
-job_of inside (OfClient client) = ClientJob (flat_map (λ (c : Numbered). single_of (line_of c.1)) (lines_by (OfClient client) inside))
-job_of inside (OfStream stream) = FlowJob stream (turns_in (lines_by (OfStream stream) inside))
+job_of inside (owner.Client client) = ClientJob (flat_map (λ (c : Numbered). single_of (line_of c.1)) (lines_by (owner.Client client) inside))
+job_of inside (owner.Stream stream) = FlowJob stream (turns_in (lines_by (owner.Stream stream) inside))
 
 -- the jobs of a phase, in the order of their first lines
 abbrev pub jobs_of : List Numbered → List Job
@@ -56,10 +58,10 @@ jobs_of inside = map (job_of inside) (owners_of inside)
 
 -- the number of the job that a client's lines are, and of the one that a stream's flow is
 abbrev pub client_job : List Numbered → ℕ → ℕ
-client_job inside client = position_or_len (λ owner. is_owner owner (OfClient client)) (owners_of inside)
+client_job inside client = position_or_len (λ o. is_same_owner o (owner.Client client)) (owners_of inside)
 
 abbrev pub stream_job : List Numbered → ℕ → ℕ
-stream_job inside stream = position_or_len (λ owner. is_owner owner (OfStream stream)) (owners_of inside)
+stream_job inside stream = position_or_len (λ o. is_same_owner o (owner.Stream stream)) (owners_of inside)
 
 -- ---- scripts
 
