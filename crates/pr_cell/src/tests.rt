@@ -27,6 +27,14 @@ impl Listed {
     {
         let _ = self.items.push((number, letter));
     }
+
+    // Whether the last entry is of this number.
+    fn ends_with(&self, number: u32) -> bool {
+        match self.items.last() {
+            Some((who, _)) => *who == number,
+            None => false,
+        }
+    }
 }
 
 // One turn, which adds an entry. Gives the pass, and how many entries the turn began with.
@@ -123,6 +131,68 @@ fn two_threads_each_add_an_alphabet(rt: HostRuntime) -> Result<(), Fail> {
             }
         }
         assert!(rt; next == 123);
+    }
+    Ok(())
+}
+
+// One turn, which adds an entry behind one of another number, or at first. Gives the pass, and whether it added one.
+fn answer<R: Wait>(rt: &R, cell: &Cell<Listed>, pass: Pass<Listed>) -> (Pass<Listed>, bool)
+    requires pass { IsPassOf (λ l. l.items.items) cell.now pass }
+    requires room { pass.turns < 2 ^ 40 }
+    ensures pass { IsPassOf (λ l. l.items.items) cell.now result.0 × (result.0.number ≡ pass.number) × (result.0.turns ≡ pass.turns + 1) }
+    ensures kept { (held result.0.seat ≡ held pass.seat) × (result.0.issued ≡ pass.issued) }
+{
+    let number = pass.number();
+    let mut turn = cell.take(rt, pass);
+    if turn.value().ends_with(number) {
+        return (cell.put(turn), false);
+    }
+    turn.value().add(number, b'a');
+    (cell.put(turn), true)
+}
+
+// Answers the other caller 26 times, and waits for it each time.
+fn answer_all<R: Wait>(rt: &R, cell: &Cell<Listed>, pass: Pass<Listed>) -> Pass<Listed>
+    requires pass { IsPassOf (λ l. l.items.items) cell.now pass }
+    requires room { pass.turns ≡ 0 }
+    ensures pass { IsPassOf (λ l. l.items.items) cell.now result }
+    ensures kept { (held result.seat ≡ held pass.seat) × (result.issued ≡ pass.issued) }
+{
+    let mut pass = pass;
+    let mut added = 0u8;
+    for _ in 0..1_000_000_000u32 {
+        if added >= 26 {
+            return pass;
+        }
+        let (next, has_added) = answer(rt, cell, pass);
+        pass = next;
+        if has_added {
+            added += 1;
+        }
+    }
+    pass
+}
+
+// A caller that is not woken waits for ever, and so does the other.
+#[test]
+fn two_threads_wait_for_each_other(rt: HostRuntime) -> Result<(), Fail> {
+    let items = Vec::new(rt.alloc());
+    let Ok((cell, mut one)) = Cell::new(rt.alloc(), Listed { items }, 2) else {
+        panic!(rt; "there is memory")
+    };
+    let two = cell.split(&mut one);
+    let (one, two) = thread::join(
+        &rt,
+        || answer_all(&rt, &cell, one),
+        || answer_all(&rt, &cell, two),
+    );
+    let one = cell.join_pass(one, two);
+    let all = cell.close(one);
+    assert!(rt; all.items.len() == 52);
+    let mut last = 2;
+    for (who, _) in &all.items {
+        assert!(rt; *who != last);
+        last = *who;
     }
     Ok(())
 }

@@ -15,11 +15,11 @@ use Rattle.pr_story.specs.declared.event.Event.TheVariants.{Down}
 use Rattle.pr_story.specs.Turns.{event_of}
 use Rattle.pr_wire.specs.Spelling.{spelling}
 use Rattle.pr_wire.specs.declared.format.Format.TheVariants.{Two}
-use Rattle.pr_wires.specs.Calls.{Grows}
+use Rattle.pr_wires.specs.Calls.{Grows, WireState}
 use Rattle.pr_flow.specs.declared.flow_end.FlowEnd.{FlowEnd}
-use Rattle.pr_flow.specs.Calls.{Call, HasEnded, HasNotTurned, HasStepped, HasTurned, IsStep, Turning, entry_of}
+use Rattle.pr_flow.specs.Calls.{Call, HasEnded, HasNotTurned, HasStepped, HasTurned, IsSending, Turning, entry_of}
 use Rattle.pr_flow.specs.Flows.{Sides, SomeFlow, TurnFlows}
-use Rattle.pr_flow.specs.Moving.{IsCut, MovesPart, WireState}
+use Rattle.pr_flow.specs.Moving.{IsCut, MovesPart}
 use Rattle.pr_flow.specs.Taking.{GoesDown, IsGap, Takes}
 use Rattle.pr_flow.proofs.Turns.{accepted_leads, cut_ends, cut_refused, gap_ends, gap_refused, memory_ends, taking_refused, turn_refused}
 
@@ -28,18 +28,18 @@ pub is_fault : {X : Type 0} (r : Result X NodeFault) (P : NodeFault → Type 0) 
 is_fault {X = X} (Ok x) P fault err all = let bad : false ≡ true = err.0 in absurd (cc)
 is_fault {X = X} (Err e) P fault err all = ap (λ (f : NodeFault). let r : Result X NodeFault = Err f in r) (all e err.1)
 
-module _ {A B : Type 0} (made_a : A → List Entry) (act_a : A → Call → Option ℕ → A → Type 0)
-    (made_b : B → List Entry) (act_b : B → Call → Option ℕ → B → Type 0) where
+module _ {A B : Type 0} (made_a : A → List Entry) (act_a : A → Call → Option NodeFault → A → Type 0)
+    (made_b : B → List Entry) (act_b : B → Call → Option NodeFault → B → Type 0) where
   abbrev sides : A → B → SessionMeaning → Sides A B
   sides a b session = record { source = a; destination = b; session = session }
 
   -- a turn made the entry of this step
   abbrev pub HasMade : A → A → SessionMeaning → SessionMeaning → Step → Type 0
-  HasMade a a1 c c1 step = IsStep c.stream step × ((time : ℕ) × (caller : ℕ) × HasTurned made_a act_a a c (entry_of time caller (event_of c.stream step)) a1 c1)
+  HasMade a a1 c c1 step = IsSending c.stream (event_of c.stream step) × ((time : ℕ) × (caller : ℕ) × HasTurned made_a act_a a c (entry_of time caller (event_of c.stream step)) a1 c1)
 
-  pub has_made : (a a1 : A) (c c1 : SessionMeaning) (step other : Step) → IsStep c.stream step × ((time : ℕ) × (caller : ℕ) × (made_a a1 ≡ made_a a ++ entry_of time caller (event_of c.stream step) ∷ []) × HasStepped c c1 (entry_of time caller (event_of c.stream step))) → act_a a (Turning c c1) None a1 → step ≡ other → HasMade a a1 c c1 other
+  pub has_made : (a a1 : A) (c c1 : SessionMeaning) (step other : Step) → IsSending c.stream (event_of c.stream step) × ((time : ℕ) × (caller : ℕ) × (made_a a1 ≡ made_a a ++ entry_of time caller (event_of c.stream step) ∷ []) × HasStepped c c1 (entry_of time caller (event_of c.stream step))) → act_a a (Turning c c1) None a1 → step ≡ other → HasMade a a1 c c1 other
   has_made a a1 c c1 step other made acts is =
-      subst (λ (s : Step). HasMade a a1 c c1 s) is (made.0, (made.1.0, made.1.1, record { act = acts; made = made.1.2; session = made.1.3 }))
+      subst (λ (s : Step). HasMade a a1 c c1 s) is (made.0, (made.1.0, made.1.1, record { act = acts; made = made.1.2; sends = made.0; session = made.1.3 }))
 
   pub refused_flows : (turns : ℕ) (a a1 : A) (b : B) (c c1 : SessionMeaning) (g t : Option (List ℕ)) (fault : NodeFault) (r : Result (Option FlowEnd) NodeFault) → 1 ≤ turns → HasNotTurned made_a act_a a c fault a1 c1 → r ≡ Err fault → TurnFlows made_a act_a made_b act_b c.stream turns (sides a b c) (sides a1 b c1) g g t t r
   refused_flows turns a a1 b c c1 g t fault r some refused is =

@@ -1,9 +1,9 @@
 -- What wires tell, call after call.
-use Rattle.std.proofs.Common.{◌≡◌, ◌≤◌, ◌⊎◌, ◌+◌, ◌-◌, ℕ, Bool, List, [], ◌++◌, length, take, drop, Option, Some, None, IsSome, IsTrue, inl, inr, sym, ap, ◌∙◌, subst, append_assoc, arith}
+use Rattle.std.proofs.Common.{◌≡◌, ◌≤◌, ◌⊎◌, ◌+◌, ◌-◌, ℕ, List, [], ◌++◌, length, take, drop, Option, Some, None, IsSome, IsTrue, inl, inr, sym, ap, ◌∙◌, subst, append_assoc, arith}
 use Rattle.std.proofs.lemmas.List.{append-nil, length-append, length-drop, length-take, take_all}
 use Rattle.std.proofs.Math.Seq.{take-add}
-use Rattle.pr_wires.specs.Calls.{Grows, HasJust, Shrinks}
-use Rattle.pr_flow.specs.Moving.{Moves, PassesThrough, WireState}
+use Rattle.pr_wires.specs.Calls.{Grows, HasJust, Shrinks, WireState}
+use Rattle.pr_flow.specs.Moving.{Moves, PassesThrough}
 
 some_is : (x y : List ℕ) → x ≡ y → let a : Option (List ℕ) = Some x in let b : Option (List ℕ) = Some y in a ≡ b
 some_is x y e = ap (λ (t : List ℕ). let o : Option (List ℕ) = Some t in o) e
@@ -98,9 +98,9 @@ told_on (Some v) (Some w) put got p e = absurd (some_none e)
 
 -- ---- what the first call tells of the wire
 
-module _ {W : Type 0} (under : W → ℕ) (held : W → Option (List ℕ)) (sound : W → Bool) where
+module _ {W : Type 0} (state : W → WireState) where
   abbrev pub IsKnown : W → Type 0
-  IsKnown w = HasJust (held w) (under w) × (IsTrue (sound w) → IsSome (held w))
+  IsKnown w = HasJust (state w).held (state w).under × (IsTrue (state w).sound → IsSome (state w).held)
 
   pub known_start : (first w : W) (at : ℕ) → ((at ≡ 0) × (w ≡ first)) ⊎ IsKnown first → IsKnown w → IsKnown first
   known_start first w at start now = elim start [ inl same ↦ subst (λ (x : W). IsKnown x) same.1 now | inr known ↦ known ]

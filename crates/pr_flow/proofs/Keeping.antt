@@ -36,8 +36,8 @@ kept_same a b p = record {
 kept : (a : SessionMeaning) → IsKept a a
 kept a = record { stream = refl; attached = refl; names = refl; bodies = refl }
 
-module _ {A B : Type 0} (made_a : A → List Entry) (act_a : A → Call → Option ℕ → A → Type 0)
-    (made_b : B → List Entry) (act_b : B → Call → Option ℕ → B → Type 0) where
+module _ {A B : Type 0} (made_a : A → List Entry) (act_a : A → Call → Option NodeFault → A → Type 0)
+    (made_b : B → List Entry) (act_b : B → Call → Option NodeFault → B → Type 0) where
   same_sides : (x y : Sides A B) → y ≡ x → IsKept x.session y.session
   same_sides x y e = subst (λ (z : Sides A B). IsKept x.session z.session) (sym e) (kept x.session)
 

@@ -1,6 +1,5 @@
 pub mod Growing
 pub mod Fronts
-pub mod Decoding
 pub mod OnTheWay
 pub mod Turns
 pub mod Scripted

@@ -1,8 +1,9 @@
 -- A message goes over a wire, piece by piece.
-use Rattle.std.proofs.Common.{◌≡◌, ◌≤◌, ◌+◌, ℕ, List, ◌++◌, length, take, drop, min, None, false, true, Result, Ok, Err, inl, inr, sym, ap, ◌∙◌, subst, append_assoc, arith}
-use Rattle.std.proofs.lemmas.List.{length-append, take-append-drop, take-append-le}
+use Rattle.std.proofs.Common.{◌≡◌, ◌≤◌, ◌+◌, ℕ, List, [], ◌∷◌, ◌++◌, length, take, drop, min, None, false, true, Result, Ok, Err, inl, inr, sym, ap, ◌∙◌, subst, append_assoc, arith}
+use Rattle.std.proofs.lemmas.List.{append-nil, length-append, take-append-drop, take-append-le}
 use Rattle.std.specs.Io.{StartsWith}
 use Rattle.std.specs.Result.{IfOk, IsErr}
+use Rattle.pr_wires.specs.Calls.{WireState}
 use Rattle.pr_ports.specs.Faults.{HasRisen}
 use Rattle.pr_inval.specs.declared.msg.Msg.{Msg}
 use Rattle.pr_story.specs.declared.cause.Cause.{Cause}
@@ -12,7 +13,7 @@ use Rattle.pr_wire.specs.Feeding.{Fed, pushed}
 use Rattle.pr_wire.specs.declared.format.Format.TheVariants.{Two}
 use Rattle.pr_flow.specs.declared.carrying.Carried.{Carried}
 use Rattle.pr_flow.specs.declared.carrying.Carried.TheVariants as carried
-use Rattle.pr_flow.specs.Moving.{IsCarried, IsCut, IsLie, Moves, MovesPart, WireState}
+use Rattle.pr_flow.specs.Moving.{IsCarried, IsCut, IsLie, Moves, MovesPart}
 use Rattle.pr_flow.proofs.Fronts.{starts_behind, starts_longer, starts_not_behind, starts_with}
 use Rattle.pr_flow.proofs.Growing.{moves_more, told_on}
 
@@ -23,6 +24,11 @@ pub cut_from : (cause : Cause) (a b c : WireState) → a.faults ≤ b.faults →
 cut_from causes.Failed a b c faults ends cut = risen_from a.faults b.faults c.faults faults cut
 cut_from causes.Ended a b c faults ends cut = risen_from a.ends b.ends c.ends ends cut
 cut_from causes.Gap a b c faults ends cut = cut
+
+-- nothing is left, so all of the message is in
+pub all_in : (front rest : List ℕ) (m : Msg) → length rest ≡ 0 → front ++ rest ≡ spelling Two m → front ≡ spelling Two m
+all_in front [] m none all = sym (append-nil front) ∙ all
+all_in front (x ∷ rest) m none all = absurd (omega (arith, none))
 
 -- a beginning of the message was put and taken, and there was no memory
 pub no_memory : {E : Type 0} (a b : WireState) (m : Msg) (put rest : List ℕ) (r : Result Carried E) → IsErr r → put ++ rest ≡ spelling Two m → Moves a b put put → IsCarried a b m r

@@ -29,8 +29,8 @@ pub record Scripted (s : ℕ) (under_way : Option Msg) (turns : ℕ) (events : L
   pub begun : (more : List Event) × AreTurns s under_way turns (events ++ more)
   pub whole : IsWhole end → AreTurns s under_way turns events
 
-module _ {A B : Type 0} (made_a : A → List Entry) (act_a : A → Call → Option ℕ → A → Type 0)
-    (made_b : B → List Entry) (act_b : B → Call → Option ℕ → B → Type 0) (s : ℕ) (rest : Rest) (x y : Sides A B) where
+module _ {A B : Type 0} (made_a : A → List Entry) (act_a : A → Call → Option NodeFault → A → Type 0)
+    (made_b : B → List Entry) (act_b : B → Call → Option NodeFault → B → Type 0) (s : ℕ) (rest : Rest) (x y : Sides A B) where
   at_rest : (turns : ℕ) (end : Result FlowEnd NodeFault) → EndsAtRest made_a act_a made_b act_b turns end rest x y → Scripted s None turns [] end
   at_rest turns (Ok ends.Done) e = record { begun = ([], e.0); whole = λ w. e.0 }
   at_rest turns (Ok _) e = absurd e

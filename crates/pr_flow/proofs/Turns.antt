@@ -32,8 +32,8 @@ grows_first a b c x y z p q = subst (λ (t : List ℕ). Grows a c t) (sym (appen
 grows_alone : (a b : Option (List ℕ)) (x : List ℕ) → Grows a b x → Grows a b ((x ++ []) ++ [])
 grows_alone a b x p = subst (λ (t : List ℕ). Grows a b t) (sym (append-nil (x ++ []) ∙ append-nil x)) p
 
-module _ {A B : Type 0} (made_a : A → List Entry) (act_a : A → Call → Option ℕ → A → Type 0)
-    (made_b : B → List Entry) (act_b : B → Call → Option ℕ → B → Type 0) where
+module _ {A B : Type 0} (made_a : A → List Entry) (act_a : A → Call → Option NodeFault → A → Type 0)
+    (made_b : B → List Entry) (act_b : B → Call → Option NodeFault → B → Type 0) where
   abbrev sides : A → B → SessionMeaning → Sides A B
   sides a b session = record { source = a; destination = b; session = session }
 

@@ -1,5 +1,6 @@
 -- A flow, by its turns.
 use Rattle.std.proofs.Common.{◌≡◌, ◌-◌, ℕ, List, Option, Some, None, Result, Ok, Err, refl, sym, subst, ◌∙◌, arith}
+use Rattle.pr_wires.specs.Calls.{WireState}
 use Rattle.pr_inval.specs.declared.node_fault.NodeFault.{NodeFault}
 use Rattle.pr_inval.specs.Standing.{SessionMeaning}
 use Rattle.pr_story.specs.declared.entry.Entry.{Entry}
@@ -8,7 +9,6 @@ use Rattle.pr_flow.specs.declared.flow_end.FlowEnd.TheVariants as ends
 use Rattle.pr_flow.specs.Calls.{Call}
 use Rattle.pr_flow.specs.Ending.{GoesOn, TurnEnds}
 use Rattle.pr_flow.specs.Flows.{Flows, Leads, Sides, SomeFlow, TurnFlows, events_of}
-use Rattle.pr_flow.specs.Moving.{WireState}
 use Rattle.pr_flow.proofs.Scripted.{is_of_script}
 use Rattle.pr_flow.proofs.Turns.{done_ends, leads_more}
 
@@ -30,8 +30,8 @@ goes_more a b c x y z p q = record {
 pub goes_on : (a b : WireState) (x y : SessionMeaning) (r : Option FlowEnd) → TurnEnds a b x y (Ok r) → r ≡ None → GoesOn a b x y
 goes_on a b x y r turned is = subst (λ (o : Option FlowEnd). TurnEnds a b x y (Ok o)) is turned
 
-module _ {A B : Type 0} (made_a : A → List Entry) (act_a : A → Call → Option ℕ → A → Type 0)
-    (made_b : B → List Entry) (act_b : B → Call → Option ℕ → B → Type 0) where
+module _ {A B : Type 0} (made_a : A → List Entry) (act_a : A → Call → Option NodeFault → A → Type 0)
+    (made_b : B → List Entry) (act_b : B → Call → Option NodeFault → B → Type 0) where
   -- so far, and then one more turn
   pub one_more : (s stream turns left : ℕ) (x z w : Sides A B) (g g1 g2 t t1 t2 : Option (List ℕ)) (r : Option FlowEnd) → stream ≡ s → Leads made_a act_a made_b act_b s turns left x z g g1 t t1 → TurnFlows made_a act_a made_b act_b stream left z w g1 g2 t1 t2 (Ok r) → r ≡ None → Leads made_a act_a made_b act_b s turns (left - 1) x w g g2 t t2
   one_more s stream turns left x z w g g1 g2 t t1 t2 r same leads turned is =

@@ -2,16 +2,14 @@
 use Rattle.std.specs.Prelude.{◌≡◌, ◌≤◌, ℕ, List, [], ◌∷◌, ◌++◌, Option, Some, None, Result, Ok, Err}
 use Rattle.pr_inval.specs.declared.msg.Msg.{Msg}
 use Rattle.pr_inval.specs.declared.node_fault.NodeFault.{NodeFault}
-use Rattle.pr_inval.specs.declared.node_fault.NodeFault.TheVariants as faults
 use Rattle.pr_inval.specs.declared.step.Step.{Step}
-use Rattle.pr_inval.specs.declared.step.Step.TheVariants as steps
 use Rattle.pr_inval.specs.declared.taken.Taken.{Taken}
 use Rattle.pr_inval.specs.declared.taken.Taken.TheVariants as takens
 use Rattle.pr_inval.specs.Standing.{HasHeard, IsSameSession, SessionMeaning}
 use Rattle.pr_story.specs.declared.cause.Cause.{Cause}
 use Rattle.pr_story.specs.declared.entry.Entry.{Entry}
 use Rattle.pr_story.specs.declared.event.Event.{Event}
-use Rattle.pr_story.specs.declared.event.Event.TheVariants.{Accepted, Gapped, Down}
+use Rattle.pr_story.specs.declared.event.Event.TheVariants.{Sent, Accepted, Gapped, Down}
 use Rattle.pr_story.specs.Commands.{IsNoCheckpoint}
 use Rattle.pr_story.specs.Sessions.{HasGoneOn}
 use Rattle.pr_story.specs.Turns.{event_of}
@@ -23,15 +21,10 @@ pub data Call : Type 0 where
   Accepting : Msg → Call
   Ending : Cause → SessionMeaning → SessionMeaning → Call
 
--- the place of a Worn, or none
-abbrev pub place_of : NodeFault → Option ℕ
-place_of faults.NoMemory = None
-place_of (faults.Worn at) = Some at
-
--- that of the answer
-abbrev pub worn_of : {X : Type 0} → Result X NodeFault → Option ℕ
-worn_of (Ok x) = None
-worn_of (Err fault) = place_of fault
+-- the fault that was answered, or none
+abbrev pub fault_of : {X : Type 0} → Result X NodeFault → Option NodeFault
+fault_of (Ok x) = None
+fault_of (Err fault) = Some fault
 
 abbrev pub entry_of : ℕ → ℕ → Event → Entry
 entry_of time caller event = record { time = time; caller = caller; event = event }
@@ -53,9 +46,10 @@ pub record IsSendable (s : ℕ) (m : Msg) : Type 0 where
   pub stream : m.stream ≡ s
   pub kind : IsNoCheckpoint m.kind
 
-abbrev pub IsStep : ℕ → Step → Type 0
-IsStep s (steps.Sent m) = IsSendable s m
-IsStep s _ = Unit {0}
+-- what the event of a turn sends, if anything
+abbrev pub IsSending : ℕ → Event → Type 0
+IsSending s (Sent m) = IsSendable s m
+IsSending s _ = Unit {0}
 
 -- a time of an event
 pub record IsTime (time : ℕ) : Type 0 where
@@ -66,7 +60,7 @@ pub record IsTime (time : ℕ) : Type 0 where
 
 abbrev pub TurnMakes : List Entry → List Entry → SessionMeaning → SessionMeaning → Result Step NodeFault → Type 0
 TurnMakes before now a b (Ok answer) =
-    IsStep a.stream answer
+    IsSending a.stream (event_of a.stream answer)
     × ((time : ℕ) × (caller : ℕ) × (now ≡ before ++ entry_of time caller (event_of a.stream answer) ∷ [])
     × HasStepped a b (entry_of time caller (event_of a.stream answer)))
 TurnMakes before now a b (Err fault) = (now ≡ before) × IsSameSession a b
@@ -87,11 +81,12 @@ DownMakes before now a b cause (Err fault) = (now ≡ before) × IsSameSession a
 
 -- ---- calls on a side, each from one moment of it and of the session to the next
 
-module _ {S : Type 0} (made_by : S → List Entry) (act_of : S → Call → Option ℕ → S → Type 0) where
-  -- a turn made the entry
+module _ {S : Type 0} (made_by : S → List Entry) (act_of : S → Call → Option NodeFault → S → Type 0) where
+  -- a turn made the entry, and what it sends is of the grammar and of the session's stream
   pub record HasTurned (x : S) (a : SessionMeaning) (e : Entry) (y : S) (b : SessionMeaning) : Type 0 where
     pub act : act_of x (Turning a b) None y
     pub made : made_by y ≡ made_by x ++ e ∷ []
+    pub sends : IsSending a.stream e.event
     pub session : HasStepped a b e
 
   -- the message was taken, which made the entry, and the session heard its time
@@ -110,18 +105,18 @@ module _ {S : Type 0} (made_by : S → List Entry) (act_of : S → Call → Opti
   -- a call was answered a fault
 
   pub record HasNotTurned (x : S) (a : SessionMeaning) (fault : NodeFault) (y : S) (b : SessionMeaning) : Type 0 where
-    pub act : act_of x (Turning a b) (place_of fault) y
+    pub act : act_of x (Turning a b) (Some fault) y
     pub made : made_by y ≡ made_by x
     pub session : IsSameSession a b
 
   pub record HasNotTaken (x : S) (a : SessionMeaning) (m : Msg) (fault : NodeFault)
       (y : S) (b : SessionMeaning) : Type 0 where
-    pub act : act_of x (Accepting m) (place_of fault) y
+    pub act : act_of x (Accepting m) (Some fault) y
     pub made : made_by y ≡ made_by x
     pub session : b ≡ a
 
   pub record HasNotEnded (x : S) (a : SessionMeaning) (cause : Cause) (fault : NodeFault)
       (y : S) (b : SessionMeaning) : Type 0 where
-    pub act : act_of x (Ending cause a b) (place_of fault) y
+    pub act : act_of x (Ending cause a b) (Some fault) y
     pub made : made_by y ≡ made_by x
     pub session : IsSameSession a b

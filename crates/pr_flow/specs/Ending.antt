@@ -1,12 +1,12 @@
 -- How a flow, or a turn of it, ends by its wire.
 use Rattle.std.specs.Prelude.{◌≡◌, ◌≤◌, ℕ, List, IsTrue, Option, Some, None, Result, Ok, Err}
+use Rattle.pr_wires.specs.Calls.{WireState}
 use Rattle.pr_ports.specs.Faults.{HasRisen}
 use Rattle.pr_inval.specs.declared.node_fault.NodeFault.{NodeFault}
 use Rattle.pr_inval.specs.Standing.{SessionMeaning}
 use Rattle.pr_story.specs.declared.cause.Cause.TheVariants.{Failed, Ended, Gap}
 use Rattle.pr_flow.specs.declared.flow_end.FlowEnd.{FlowEnd}
 use Rattle.pr_flow.specs.declared.flow_end.FlowEnd.TheVariants as ends
-use Rattle.pr_flow.specs.Moving.{WireState}
 
 -- Down for a failure, or an end, of the wire comes only where that count rose
 abbrev pub IsCutBy : WireState → WireState → Result FlowEnd NodeFault → Type 0

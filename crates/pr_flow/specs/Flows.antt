@@ -81,8 +81,8 @@ pub record Rest : Type 0 where
 abbrev pub IsNothing : Rest → Type 0
 IsNothing rest = (rest.put ≡ []) × (rest.got ≡ [])
 
-module _ {A B : Type 0} (made_a : A → List Entry) (act_a : A → Call → Option ℕ → A → Type 0)
-    (made_b : B → List Entry) (act_b : B → Call → Option ℕ → B → Type 0) where
+module _ {A B : Type 0} (made_a : A → List Entry) (act_a : A → Call → Option NodeFault → A → Type 0)
+    (made_b : B → List Entry) (act_b : B → Call → Option NodeFault → B → Type 0) where
   -- the call that the event says made the entry
   abbrev pub Makes : Event → Sides A B → Entry → Sides A B → Type 0
   Makes (Sent m) x e y =

@@ -1,41 +1,17 @@
 -- How bytes move over a wire.
-use Rattle.std.specs.Prelude.{◌≡◌, ◌≤◌, ◌<◌, ◌+◌, ◌^◌, ℕ, Bool, IsTrue, List, [], ◌++◌, length, take, Option, Some, None, Result, Ok, Err}
+use Rattle.std.specs.Prelude.{◌≡◌, ◌≤◌, ◌<◌, ◌+◌, ◌^◌, ℕ, IsTrue, List, [], ◌++◌, length, take, Option, Some, None, Result, Ok, Err}
 use Rattle.std.specs.Io.{StartsWith}
 use Rattle.pr_ports.specs.Faults.{HasRisen}
 use Rattle.pr_inval.specs.declared.msg.Msg.{Msg}
 use Rattle.pr_story.specs.declared.cause.Cause.{Cause}
 use Rattle.pr_story.specs.declared.cause.Cause.TheVariants as causes
-use Rattle.pr_wires.specs.Calls.{Grows}
-use Rattle.pr_wire.specs.Feeding.{Fed}
-use Rattle.pr_wire.specs.Messages.{HasSpelling}
+use Rattle.pr_wires.specs.Calls.{Grows, WireState}
 use Rattle.pr_wire.specs.Spelling.{spelling}
 use Rattle.pr_wire.specs.declared.format.Format.TheVariants.{Two}
 use Rattle.pr_flow.specs.declared.passing.Passed.{Passed}
 use Rattle.pr_flow.specs.declared.passing.Passed.TheVariants as passed
 use Rattle.pr_flow.specs.declared.carrying.Carried.{Carried}
 use Rattle.pr_flow.specs.declared.carrying.Carried.TheVariants as carried
-
--- a wire at some moment
-pub record WireState : Type 0 where
-  pub faults : ℕ
-  pub ends : ℕ
-  pub under : ℕ
-  pub given : Option (List ℕ)
-  pub taken : Option (List ℕ)
-  pub held : Option (List ℕ)
-  pub sound : Bool
-
-abbrev pub state_of : {W : Type 0} → (W → ℕ) → (W → ℕ) → (W → ℕ) → (W → Option (List ℕ)) → (W → Option (List ℕ)) → (W
-    → Option (List ℕ)) → (W → Bool) → W → WireState
-state_of faults ends under given taken held sound w = record {
-  faults = faults w;
-  ends = ends w;
-  under = under w;
-  given = given w;
-  taken = taken w;
-  held = held w;
-  sound = sound w;
-}
 
 -- what was held and then put is what was taken and what is still held
 abbrev pub PassesThrough : Option (List ℕ) → Option (List ℕ) → List ℕ → List ℕ → Type 0
@@ -113,9 +89,3 @@ IsNoLieOrCut (Err fault) = Unit {0}
 abbrev pub IsLie : Msg → List ℕ → Carried → Type 0
 IsLie m bytes (carried.Lied sent got) = (sent ≡ spelling Two m) × (got ≡ bytes) × (length sent < 2 ^ 64)
 IsLie m bytes _ = ⊥
-
--- a feed of any frame that holds just the frame of the message
-pub record IsFrameOf (feed : Fed) (m : Msg) : Type 0 where
-  pub spelled : HasSpelling Two m
-  pub limit : feed.limit ≡ 18446744073709551615
-  pub frame : feed.rest ≡ spelling Two m

@@ -11,7 +11,7 @@ use Rattle.pr_flow.specs.declared.flow_end.FlowEnd.{FlowEnd}
 use Rattle.pr_flow.specs.declared.flow_end.FlowEnd.TheVariants as ends
 use Rattle.pr_flow.specs.Calls.{Call, HasEnded, HasNotEnded, HasNotTaken, HasTaken, entry_of}
 
-module _ {S : Type 0} (made : S → List Entry) (act : S → Call → Option ℕ → S → Type 0) where
+module _ {S : Type 0} (made : S → List Entry) (act : S → Call → Option NodeFault → S → Type 0) where
   -- the flow went down, or this was refused
   abbrev pub GoesDown : S → SessionMeaning → Cause → S → SessionMeaning → Result (Option FlowEnd) NodeFault → Type 0
   GoesDown x a cause y b (Ok None) = ⊥

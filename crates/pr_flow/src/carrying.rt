@@ -1,5 +1,5 @@
 // A message goes over a wire.
-ghost use Rattle.pr_flow.specs.Moving.{IsCarried, IsFrameOf, IsLie, IsNoLieOrCut, state_of};
+ghost use Rattle.pr_flow.specs.Moving.{IsCarried, IsLie, IsNoLieOrCut};
 ghost use Rattle.pr_wire.specs.Messages.{IsMessage};
 ghost use Rattle.pr_wire.specs.Spelling.{spelling};
 ghost use Rattle.pr_wire.specs.declared.format.Format.{Format};
@@ -9,7 +9,7 @@ use crate::passing::{Passed, pass};
 use pr_inval::{Bytes, Msg};
 use pr_stamps::{NoMemory, Seq};
 use pr_story::Cause;
-use pr_wire::{Feed, Next, Pieces, encode, messages_are_never_bad, no_frame_begins_another};
+use pr_wire::{Feed, Pieces, encode};
 use pr_wires::{UNDER, Wire};
 use std::alloc::Global;
 
@@ -25,9 +25,9 @@ pub enum Carried {
 /// memory for what it decodes, and for the encoding only where other bytes are taken.
 pub fn carry<W: Wire>(alloc: Global, msg: &Msg, wire: &mut W) -> Result<Carried, NoMemory>
     requires message { IsMessage msg.now }
-    requires under { W.under wire.old ≡ 0 }
-    ensures moved { IsCarried (state_of W.faults W.ends W.under W.given W.taken W.held W.is_sound wire.old) (state_of W.faults W.ends W.under W.given W.taken W.held W.is_sound wire.new) msg.now result }
-    ensures sound { IsTrue (W.is_sound wire.old) → IsNoLieOrCut result }
+    requires under { (W.state wire.old).under ≡ 0 }
+    ensures moved { IsCarried (W.state wire.old) (W.state wire.new) msg.now result }
+    ensures sound { IsTrue (W.state wire.old).sound → IsNoLieOrCut result }
 {
     let mut pieces = Pieces::new(msg);
     let mut feed = Feed::new(alloc, u64::MAX);
@@ -37,7 +37,7 @@ pub fn carry<W: Wire>(alloc: Global, msg: &Msg, wire: &mut W) -> Result<Carried,
     loop {
         let len = pieces.next(&mut piece);
         if len == 0 {
-            return Ok(Carried::Whole(decoded(feed, msg)?));
+            return Ok(Carried::Whole(feed.only_message()?));
         }
         match pass(wire, &piece[..len], &mut bytes[..len]) {
             Passed::Whole => feed.push(&bytes[..len])?,
@@ -45,19 +45,6 @@ pub fn carry<W: Wire>(alloc: Global, msg: &Msg, wire: &mut W) -> Result<Carried,
             Passed::Lied { len } => return lied(alloc, msg, done, &bytes[..len]),
         }
         done = done.saturating_add(len);
-    }
-}
-
-// The message that is in.
-fn decoded(mut feed: Feed, msg: &Msg) -> Result<Msg, NoMemory>
-    requires { IsFrameOf feed msg.now }
-    ensures { IfOk result (λ m. m ≡ msg.now) }
-{
-    messages_are_never_bad();
-    no_frame_begins_another();
-    match feed.next()? {
-        Next::Message(msg) => Ok(msg),
-        _ => unreachable!(),
     }
 }
 

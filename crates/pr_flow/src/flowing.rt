@@ -2,7 +2,6 @@
 ghost use Rattle.pr_flow.specs.Calls.{IsKept};
 ghost use Rattle.pr_flow.specs.Ending.{EndsByWire, TurnEnds};
 ghost use Rattle.pr_flow.specs.Flows.{Flows, Sides, TurnFlows};
-ghost use Rattle.pr_flow.specs.Moving.{state_of};
 ghost use Rattle.pr_flow.specs.Taking.{GoesDown, Takes};
 ghost use Rattle.pr_inval.specs.Standing.{means};
 ghost use Rattle.pr_wire.specs.Messages.{IsMessage};
@@ -29,10 +28,10 @@ pub fn flow<A: Side, B: Side, W: Wire>(
     wire: &mut W,
 ) -> Result<FlowEnd, NodeFault>
     requires attached { IsTrue (means session.old).attached }
-    requires under { W.under wire.old ≡ 0 }
-    ensures flowed { Flows A.made A.act B.made B.act (means session.old).stream turns (record { source = source.old; destination = dest.old; session = means session.old }) (record { source = source.new; destination = dest.new; session = means session.new }) (W.given wire.old) (W.given wire.new) (W.taken wire.old) (W.taken wire.new) result }
+    requires under { (W.state wire.old).under ≡ 0 }
+    ensures flowed { Flows A.made A.act B.made B.act (means session.old).stream turns (record { source = source.old; destination = dest.old; session = means session.old }) (record { source = source.new; destination = dest.new; session = means session.new }) (W.state wire.old).given (W.state wire.new).given (W.state wire.old).taken (W.state wire.new).taken result }
     ensures session { IsKept (means session.old) (means session.new) }
-    ensures wire { EndsByWire (state_of W.faults W.ends W.under W.given W.taken W.held W.is_sound wire.old) (state_of W.faults W.ends W.under W.given W.taken W.held W.is_sound wire.new) result }
+    ensures wire { EndsByWire (W.state wire.old) (W.state wire.new) result }
 {
     let mut left = turns;
     while left > 0 {
@@ -53,9 +52,9 @@ fn turn<A: Side, B: Side, W: Wire>(
     wire: &mut W,
 ) -> Result<Option<FlowEnd>, NodeFault>
     requires attached { IsTrue (means session.old).attached }
-    requires under { W.under wire.old ≡ 0 }
-    ensures flowed { (turns : ℕ) → 1 ≤ turns → TurnFlows A.made A.act B.made B.act (means session.old).stream turns (record { source = source.old; destination = dest.old; session = means session.old }) (record { source = source.new; destination = dest.new; session = means session.new }) (W.given wire.old) (W.given wire.new) (W.taken wire.old) (W.taken wire.new) result }
-    ensures wire { TurnEnds (state_of W.faults W.ends W.under W.given W.taken W.held W.is_sound wire.old) (state_of W.faults W.ends W.under W.given W.taken W.held W.is_sound wire.new) (means session.old) (means session.new) result }
+    requires under { (W.state wire.old).under ≡ 0 }
+    ensures flowed { (turns : ℕ) → 1 ≤ turns → TurnFlows A.made A.act B.made B.act (means session.old).stream turns (record { source = source.old; destination = dest.old; session = means session.old }) (record { source = source.new; destination = dest.new; session = means session.new }) (W.state wire.old).given (W.state wire.new).given (W.state wire.old).taken (W.state wire.new).taken result }
+    ensures wire { TurnEnds (W.state wire.old) (W.state wire.new) (means session.old) (means session.new) result }
 {
     let msg = match source.turn(session)? {
         Step::Idle => return Ok(None),

@@ -1,5 +1,5 @@
 // A piece goes over a wire.
-ghost use Rattle.pr_flow.specs.Moving.{IsNotCut, IsPassed, IsPut, IsTaken, state_of};
+ghost use Rattle.pr_flow.specs.Moving.{IsNotCut, IsPassed, IsPut, IsTaken};
 ghost use Rattle.pr_flow.specs.declared.passing.Passed.TheVariants as passed;
 ghost use Rattle.pr_wires.specs.Calls.{HasJust};
 ghost use Rattle.std.specs.Prelude.{◌≡◌, ◌≤◌, ◌<◌, ◌+◌, IsOk, IsSome, IsTrue, length};
@@ -20,10 +20,10 @@ pub fn pass<W: Wire>(wire: &mut W, piece: &[u8], bytes: &mut [u8]) -> Passed
     requires some { 0 < length piece.now }
     requires most { length piece.now ≤ 4096 }
     requires room { length bytes.old ≡ length piece.now }
-    requires under { W.under wire.old ≡ 0 }
-    ensures moved { IsPassed (state_of W.faults W.ends W.under W.given W.taken W.held W.is_sound wire.old) (state_of W.faults W.ends W.under W.given W.taken W.held W.is_sound wire.new) piece.now bytes.new result }
-    ensures sound { IsTrue (W.is_sound wire.old) → result ≡ passed.Whole }
-    ensures just { HasJust (W.held wire.old) (W.under wire.old) }
+    requires under { (W.state wire.old).under ≡ 0 }
+    ensures moved { IsPassed (W.state wire.old) (W.state wire.new) piece.now bytes.new result }
+    ensures sound { IsTrue (W.state wire.old).sound → result ≡ passed.Whole }
+    ensures just { HasJust (W.state wire.old).held (W.state wire.old).under }
 {
     match put_all(wire, piece) {
         Ok(()) => take_all(wire, piece, bytes),
@@ -34,10 +34,10 @@ pub fn pass<W: Wire>(wire: &mut W, piece: &[u8], bytes: &mut [u8]) -> Passed
 // Puts the whole piece, by as many calls as the wire asks for.
 fn put_all<W: Wire>(wire: &mut W, piece: &[u8]) -> Result<(), Cause>
     requires some { 0 < length piece.now }
-    requires under { W.under wire.old + length piece.now ≤ 4096 }
-    ensures moved { IsPut (state_of W.faults W.ends W.under W.given W.taken W.held W.is_sound wire.old) (state_of W.faults W.ends W.under W.given W.taken W.held W.is_sound wire.new) piece.now result }
-    ensures sound { IsTrue (W.is_sound wire.old) → IsOk result × IsSome (W.held wire.old) }
-    ensures just { HasJust (W.held wire.old) (W.under wire.old) }
+    requires under { (W.state wire.old).under + length piece.now ≤ 4096 }
+    ensures moved { IsPut (W.state wire.old) (W.state wire.new) piece.now result }
+    ensures sound { IsTrue (W.state wire.old).sound → IsOk result × IsSome (W.state wire.old).held }
+    ensures just { HasJust (W.state wire.old).held (W.state wire.old).under }
 {
     let mut put = 0;
     while put < piece.len() {
@@ -53,9 +53,9 @@ fn put_all<W: Wire>(wire: &mut W, piece: &[u8]) -> Result<(), Cause>
 // Takes what is under way, by as many calls as the wire asks for, each of which asks for all that is left of it.
 fn take_all<W: Wire>(wire: &mut W, piece: &[u8], bytes: &mut [u8]) -> Passed
     requires room { length bytes.old ≡ length piece.now }
-    requires under { W.under wire.old ≡ length piece.now }
-    ensures moved { IsTaken (state_of W.faults W.ends W.under W.given W.taken W.held W.is_sound wire.old) (state_of W.faults W.ends W.under W.given W.taken W.held W.is_sound wire.new) piece.now bytes.new result }
-    ensures cut { IsTrue (W.is_sound wire.old) → IsNotCut result }
+    requires under { (W.state wire.old).under ≡ length piece.now }
+    ensures moved { IsTaken (W.state wire.old) (W.state wire.new) piece.now bytes.new result }
+    ensures cut { IsTrue (W.state wire.old).sound → IsNotCut result }
     ensures length { length bytes.new ≡ length piece.now }
 {
     let mut at = 0;

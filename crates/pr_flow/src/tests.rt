@@ -172,19 +172,7 @@ struct Slow {
 }
 
 impl Wire for Slow {
-    ghost faults = { λ w. 0 };
-
-    ghost ends = { λ w. 0 };
-
-    ghost under = { λ w. length w.wire };
-
-    ghost given = { λ w. None };
-
-    ghost taken = { λ w. None };
-
-    ghost held = { λ w. None };
-
-    ghost is_sound = { λ w. false };
+    ghost state = { λ w. record { faults = 0; ends = 0; under = length w.wire; given = None; taken = None; held = None; sound = false } };
 
     fn put(&mut self, piece: &[u8]) -> Result<usize, Failed> {
         let len = piece.len().min(self.most.max(1));
@@ -249,7 +237,7 @@ struct Ran {
 
 // Makes so many turns over the wire.
 fn run_turns<W: Wire>(alloc: Global, turns: u64, has_gap: bool, wire: &mut W) -> Result<Ran, Fail>
-    requires { W.under wire.old ≡ 0 }
+    requires { (W.state wire.old).under ≡ 0 }
 {
     let mut session = attached(alloc)?;
     let mut source = make_side(alloc, false);

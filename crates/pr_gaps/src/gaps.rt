@@ -17,7 +17,8 @@ use std::marker::Model;
 
 /// The points that a node was told of, for each of its sets and for the rest, as ranges of clocks that lie apart: a long
 /// run of told points, or of untold ones, costs one range. Own points are one counter, the vector's own clock. After
-/// want of memory it is spent: each later call that takes memory is refused, and of what it holds nothing is said.
+/// want of memory it is spent: each later call that takes memory is refused, and of the points that it holds nothing is
+/// said; its sets stay.
 #[derive(Drop)]
 pub struct Gaps {
     node: u32,
@@ -103,6 +104,7 @@ impl Gaps {
         requires span { Le from.now to.now }
         requires from { Le from.now self.old.vector }
         ensures ok { OnOk result (IsCovered self.old self.new from.now to.now target.now) }
+        ensures sets { self.new.sets ≡ self.old.sets }
         ensures works { OnOk result (self.new.spent ≡ false) }
         ensures err { OnErr result (self.new.spent ≡ true) }
         ensures spent { self.old.spent ≡ true → IsErr result }

@@ -1,4 +1,5 @@
 pub mod Points
+pub mod Messages
 pub mod Merging
 pub mod Targets
 pub mod Standing

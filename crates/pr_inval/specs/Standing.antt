@@ -1,5 +1,5 @@
 -- What a session keeps of its stream, and how a contract sees it.
-use Rattle.std.specs.Prelude.{ℕ, List, Bool, ◌≡◌, ◌+◌, ◌||◌, max, true, false}
+use Rattle.std.specs.Prelude.{ℕ, List, Bool, ◌≡◌, ◌≤◌, ◌+◌, ◌||◌, max, true, false}
 use Rattle.std.specs.List.{list_any}
 use Rattle.pr_stamps.specs.Point.{Point}
 use Rattle.pr_stamps.specs.Kept.{Kept}
@@ -71,10 +71,11 @@ pub record IsNewSession (a : SessionMeaning) (stream : ℕ) (names : List Span) 
   pub time : a.standing.time ≡ 0
   pub sent : (o : List ℕ) (t : Point) → a.standing.sent o t ≡ false
 
--- attached at a start; the bodies sent are forgotten
+-- attached at a start; the bodies sent are forgotten, and no room is lost
 pub record HasBegun (a b : SessionMeaning) (start : List ℕ) : Type 0 where
   pub stream : b.stream ≡ a.stream
   pub attached : b.attached ≡ true
+  pub room : a.room ≤ b.room
   pub names : b.standing.names ≡ a.standing.names
   pub bodies : b.standing.bodies ≡ a.standing.bodies
   pub number : b.standing.number ≡ a.standing.number
@@ -113,10 +114,11 @@ pub record HasSent (a b : SessionMeaning) (to : List ℕ) (at : ℕ) : Type 0 wh
   pub position : b.standing.position ≡ join_of a.standing.position to
   pub sent : (o : List ℕ) (t : Point) → b.standing.sent o t ≡ a.standing.sent o t
 
--- this body was sent
+-- this body was sent, which takes room for one at most
 pub record HasSentBody (a b : SessionMeaning) (name : List ℕ) (stamp : Point) (at : ℕ) : Type 0 where
   pub stream : b.stream ≡ a.stream
   pub attached : b.attached ≡ a.attached
+  pub room : a.room ≤ b.room + 1
   pub names : b.standing.names ≡ a.standing.names
   pub bodies : b.standing.bodies ≡ a.standing.bodies
   pub number : b.standing.number ≡ a.standing.number + 1

@@ -2,7 +2,7 @@
 ghost use Rattle.pr_inval.specs.Points.{is_this};
 ghost use Rattle.pr_inval.specs.Standing.{was_sent};
 ghost use Rattle.pr_stamps.specs.Point.{Point};
-ghost use Rattle.std.specs.Prelude.{◌≡◌, ◌<◌, ◌||◌, [], ℕ, List, OnOk};
+ghost use Rattle.std.specs.Prelude.{◌≡◌, ◌≤◌, ◌<◌, ◌+◌, ◌||◌, [], ℕ, List, OnOk};
 
 use crate::sent_body::SentBody;
 use pr_names::Name;
@@ -45,6 +45,7 @@ impl SentBodies {
 
     pub fn reserve(&mut self) -> Result<(), NoMemory>
         ensures ok { OnOk result (0 < self.new.room) }
+        ensures kept { self.old.room ≤ self.new.room }
         ensures same { was_sent self.new.items ≡ was_sent self.old.items }
     {
         self.bodies.reserve(1)?;
@@ -53,13 +54,15 @@ impl SentBodies {
 
     pub fn note(&mut self, name: &Name, stamp: &Stamp)
         requires { 0 < self.old.room }
-        ensures { (o : List ℕ) (t : Point) → was_sent self.new.items o t ≡ (is_this name.now stamp.now o t || was_sent self.old.items o t) }
+        ensures room { self.old.room ≤ self.new.room + 1 }
+        ensures noted { (o : List ℕ) (t : Point) → was_sent self.new.items o t ≡ (is_this name.now stamp.now o t || was_sent self.old.items o t) }
     {
         let _ = self.bodies.insert(SentBody::of(name, stamp));
     }
 
     pub fn clear(&mut self)
-        ensures { self.new.items ≡ [] }
+        ensures empty { self.new.items ≡ [] }
+        ensures kept { self.old.room ≤ self.new.room }
     {
         self.bodies.clear();
     }

@@ -144,6 +144,7 @@ impl Session {
     /// Makes room to note one body that is sent. A refusal changes nothing.
     pub fn room(&mut self) -> Result<(), NoMemory>
         ensures ok { OnOk result (0 < (means self.new).room) }
+        ensures kept { (means self.old).room ≤ (means self.new).room }
         ensures same { IsSameSession (means self.old) (means self.new) }
     {
         self.sent.reserve()

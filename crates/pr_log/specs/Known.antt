@@ -18,10 +18,15 @@ at_clock row c = lookup (λ k. is_eq (nat_cmp c k)) row
 abbrev pub IsAddedAt : List (ℕ × WriteRec) → List (ℕ × WriteRec) → WriteRec → Type 0
 IsAddedAt a b write = (c : ℕ) → at_clock b c ≡ cond (nat_eq write.stamp.clock c) (option_or (at_clock a c) (Some write)) (at_clock a c)
 
+-- how many writes of the row lie above a clock
+abbrev pub count_above : List (ℕ × WriteRec) → ℕ → ℕ
+count_above row c = count_by (λ e. nat_lt c e.0) row
+
 -- the row loses its writes up to a clock
 pub record IsForgottenUpTo (clock : ℕ) (a b : List (ℕ × WriteRec)) : Type 0 where
   pub gone : (c : ℕ) → c ≤ clock → at_clock b c ≡ None
   pub kept : (c : ℕ) → clock < c → at_clock b c ≡ at_clock a c
+  pub few : (c : ℕ) → count_above b c ≤ count_above a c
 
 -- the first write of the row above a clock
 abbrev pub IsFirstIn : List (ℕ × WriteRec) → ℕ → Option WriteRec → Type 0
@@ -77,9 +82,6 @@ abbrev pub IsOmittedBetween : List (List (ℕ × WriteRec)) → List ℕ → Lis
 IsOmittedBetween rows from to sub o = (has sub o ≡ false) × ((x : WriteRec) × Has rows x × (x.name ≡ o) × Between from to x.stamp)
 
 -- ---- how many writes a position does not cover
-
-abbrev pub count_above : List (ℕ × WriteRec) → ℕ → ℕ
-count_above row c = count_by (λ e. nat_lt c e.0) row
 
 -- the sum over the numbers below n
 unfoldable pub total : (ℕ → ℕ) → ℕ → ℕ

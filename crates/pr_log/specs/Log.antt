@@ -69,6 +69,7 @@ pub record IsDarkened (a b : Logged) (to : List ℕ) : Type 0 where
   pub vector : b.vector ≡ join_of a.vector to
   pub lit : (o : List ℕ) (p : Point) → is_lit b o p ≡ is_lit a o p
   pub knows : (x : WriteRec) → Knows b x ↔ Knows a x
+  pub few : (pos : List ℕ) → uncovered b.known pos ≤ uncovered a.known pos
 
 -- the vector is joined to the cut; nothing is said of what is lit below it, and no write below it stays known
 pub record IsCut (a b : Logged) : Type 0 where
@@ -77,6 +78,7 @@ pub record IsCut (a b : Logged) : Type 0 where
   pub vector : b.vector ≡ a.vector
   pub lit : (o : List ℕ) (p : Point) → IsName o → ¬ Covers b.cut p → is_lit b o p ≡ is_lit a o p
   pub knows : (x : WriteRec) → Knows b x ↔ (Knows a x × ¬ Covers b.cut x.stamp)
+  pub few : (pos : List ℕ) → uncovered b.known pos ≤ uncovered a.known pos
 
 -- ---- what the calls find
 

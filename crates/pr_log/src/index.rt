@@ -60,7 +60,8 @@ impl Index {
 
     // Drops the writes that the cut covers, each in time logarithmic in the writes of its node.
     pub(crate) fn forget(&mut self, cut: &Vector)
-        ensures { IsForgotten self.old self.new cut.now }
+        ensures forgotten { IsForgotten self.old self.new cut.now }
+        ensures few { (pos : List ℕ) → uncovered self.new pos ≤ uncovered self.old pos }
     {
         forget(&mut self.rows, cut);
     }
@@ -134,8 +135,8 @@ impl Index {
         let _ = &self.rows;
     }
 
-    // The known write of the node with the least clock above this one.
-    pub(crate) fn first_above(&self, writer: u32, clock: u64) -> Option<WriteRec>
+    // The known write of the node with the least clock above this one. It counts no step, so no other module has it.
+    fn first_above(&self, writer: u32, clock: u64) -> Option<WriteRec>
         requires { writer < 32 }
         ensures { IsFirstAbove self.now writer clock result }
     {

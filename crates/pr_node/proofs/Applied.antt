@@ -1,5 +1,6 @@
 -- All stores stay tied over an accepted checkpoint.
 use Rattle.std.proofs.Common.{◌≡◌, ℕ, ◌<◌, ◌≤◌, inl, inr, List, [], ◌∷◌, ◌++◌, ◌+◌, refl, sym, ◌∙◌, subst, length, take, get_or}
+use Rattle.pr_stamps.specs.Point.{Before}
 use Rattle.pr_names.specs.Span.{Span}
 use Rattle.pr_sets.specs.Spans.{has}
 use Rattle.pr_inval.specs.declared.kind.Kind.{Kind}
@@ -15,10 +16,9 @@ use Rattle.pr_story.specs.Knowledge.{HasRow}
 use Rattle.pr_node.specs.declared.stores.Stores.{Stores}
 use Rattle.pr_node.specs.Taking.{AreSettled}
 use Rattle.pr_node.specs.Ties.{IsTied}
-use Rattle.std.proofs.lemmas.List.Elements.{Contains-append_left, Contains-append_right}
+use Rattle.std.proofs.lemmas.List.Elements.{Contains-append_left, Contains-push, Contains-push_cases}
 use Rattle.pr_story.proofs.NewestFirst.{with_next, with_whole}
-use Rattle.pr_story.proofs.Sorted.{is_first}
-use Rattle.pr_wire.specs.Messages.{IsKind}
+use Rattle.pr_inval.specs.Messages.{IsKind}
 use Rattle.pr_node.proofs.Logs.{dark_log}
 use Rattle.pr_node.proofs.Points.{covered_gaps}
 use Rattle.pr_node.proofs.Held.{body_step, settled_or}
@@ -29,10 +29,16 @@ use Rattle.pr_node.proofs.Spelled.{rows_orderly, rows_range}
 settled_with : (a b c : Held) (rows : List Row) (row : Row) → AreSettled a b rows → IsSettled b c row.name row.newest → AreSettled a c (rows ++ row ∷ [])
 settled_with a b c rows row old settled o t = elim (settled_or b c row.name o row.newest t settled) [
   | inl same ↦ elim (old o t) [
-    | inl was ↦ inl (same ∙ was)
-    | inr r ↦ inr (r.0, Contains-append_left rows (row ∷ []) r.0 r.1, r.2, r.3)
+    | inl was ↦ inl (
+      same.0 ∙ was.0,
+      λ r. elim (Contains-push_cases rows row r.0 r.1) [
+        | inl before ↦ was.1 (r.0, before, r.2, r.3)
+        | inr here ↦ same.1 (subst (λ (x : Row). (x.name ≡ o) × Before t x.newest) (sym here) (r.2, r.3))
+      ],
+    )
+    | inr gone ↦ inr (same.0 ∙ gone.0, (gone.1.0, Contains-append_left rows (row ∷ []) gone.1.0 gone.1.1, gone.1.2, gone.1.3))
   ]
-  | inr gone ↦ inr (row, Contains-append_right rows (row ∷ []) row (is_first row []), gone.0, gone.1)
+  | inr gone ↦ inr (gone.0, (row, Contains-push rows row, gone.1, gone.2))
 ]
 
 -- one row more
@@ -54,8 +60,10 @@ checkpoint_tied n j a b time caller msg at to target floor rows is grammar f dar
       log = dark_log n j a.log b.log time caller msg at k is refl (λ x o. absurd o) f.log dark;
       gaps = covered_gaps n j a.gaps b.gaps time caller msg at k is f.gaps applied.gaps;
       bodies = body_step e j a.bodies b.bodies (λ o t latest. elim (settled o t) [
-        | inl same ↦ same
-        | inr r ↦ absurd (latest r.0.newest (inl (inr (r.0, subst (λ (q : Kind). HasRow q r.0) (sym is) r.1, r.2, refl))) r.3)
+        | inl same ↦ same.0
+        | inr gone ↦
+            let r = gone.1 in
+            absurd (latest r.0.newest (inl (inr (r.0, subst (λ (q : Kind). HasRow q r.0) (sym is) r.1, r.2, refl))) r.3)
       ] ∙ sym (same_body msg at k o t (held a.bodies o t) (held a.bodies o t) is refl)) f.bodies;
       marks = applied_marks j a.marks b.marks time caller msg at to target floor rows is grammar.1.floor_is (rows_range to (has target) floor rows grammar.1) (rows_orderly to (has target) floor rows grammar.1) f.marks applied.floor applied.newest applied.marks;
       spelled = (subst (λ (q : Kind). IsKind q) (sym is) grammar, f.spelled);

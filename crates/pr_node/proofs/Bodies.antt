@@ -20,7 +20,7 @@ use Rattle.pr_story.proofs.Known.{Decides-is_this, same_point}
 use Rattle.pr_node.specs.declared.stores.Stores.{Stores}
 use Rattle.pr_node.specs.Taking.{IsBodyTaken, IsLate}
 use Rattle.pr_node.specs.Ties.{IsTied, IsLogOf, IsGapsOf, IsMarksOf, named}
-use Rattle.pr_wire.specs.Messages.{IsKind}
+use Rattle.pr_inval.specs.Messages.{IsKind}
 use Rattle.pr_node.proofs.Logs.{same_log}
 use Rattle.pr_node.proofs.Points.{same_gaps}
 use Rattle.pr_node.proofs.Held.{body_step}
@@ -63,7 +63,7 @@ body_tied n j a b time caller msg at name stamp bytes is grammar f taken same_l 
       gaps = subst (λ g. IsGapsOf n (e ∷ j) g) (sym same_g) (same_gaps n e j a.gaps brought
           (λ q p acc c. no_point p (subst (λ (y : Kind). CoversPoint y p) (sym acc ∙ is) c)) f.gaps);
       bodies = body_step e j a.bodies b.bodies (λ o t latest. elim taken [
-        | inl put ↦ put o t ∙ sym (now o t)
+        | inl put ↦ put.0 o t ∙ sym (now o t)
         | inr late ↦
             let s = late_named j name stamp (newest_of a.marks name) (f.marks.newest name) late.1 in
             ap (λ (h : Held). held h o t) late.0

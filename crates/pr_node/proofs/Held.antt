@@ -31,11 +31,17 @@ pub settled_by : (name o : List ℕ) (stamp t : Point) {x : Option (List ℕ)} �
 settled_by name o stamp t {x = x} none =
     settled_cond (bytes_eq name o) (is_before t stamp) x (λ same before. none ((bytes_eq-Decides name o).0 same) (is_before_tells t stamp before))
 
--- a body stays where it was, or its stamp is before this one of its name
-pub settled_or : (a b : Held) (name o : List ℕ) (stamp t : Point) → IsSettled a b name stamp → (held b o t ≡ held a o t) ⊎ ((name ≡ o) × Before t stamp)
+not_before_tells : (s t : Point) → is_before s t ≡ false → Before s t → ⊥
+not_before_tells s t e before = grind (arith, nat_tests)
+
+not_both : (b : Bool) → b ≡ false → b ≡ true → ⊥
+not_both b e g = cc
+
+-- a body stays, or it is gone, as its stamp is before this one of its name
+pub settled_or : (a b : Held) (name o : List ℕ) (stamp t : Point) → IsSettled a b name stamp → ((held b o t ≡ held a o t) × ¬ ((name ≡ o) × Before t stamp)) ⊎ ((held b o t ≡ None) × (name ≡ o) × Before t stamp)
 settled_or a b name o stamp t settled = by (bytes_eq name o) (is_before t stamp) refl refl
   where
-    by : (p q : Bool) → bytes_eq name o ≡ p → is_before t stamp ≡ q → (held b o t ≡ held a o t) ⊎ ((name ≡ o) × Before t stamp)
-    by true true e g = inr ((bytes_eq-Decides name o).0 e, is_before_tells t stamp g)
-    by true false e g = inl (settled o t ∙ ap (λ (x : Bool). cond (x && is_before t stamp) None (held a o t)) e ∙ ap (λ (x : Bool). cond x None (held a o t)) g)
-    by false q e g = inl (settled o t ∙ ap (λ (x : Bool). cond (x && is_before t stamp) None (held a o t)) e)
+    by : (p q : Bool) → bytes_eq name o ≡ p → is_before t stamp ≡ q → ((held b o t ≡ held a o t) × ¬ ((name ≡ o) × Before t stamp)) ⊎ ((held b o t ≡ None) × (name ≡ o) × Before t stamp)
+    by true true e g = inr (settled o t ∙ ap (λ (x : Bool). cond (x && is_before t stamp) None (held a o t)) e ∙ ap (λ (x : Bool). cond x None (held a o t)) g, (bytes_eq-Decides name o).0 e, is_before_tells t stamp g)
+    by true false e g = inl (settled o t ∙ ap (λ (x : Bool). cond (x && is_before t stamp) None (held a o t)) e ∙ ap (λ (x : Bool). cond x None (held a o t)) g, λ h. not_before_tells t stamp g h.1)
+    by false q e g = inl (settled o t ∙ ap (λ (x : Bool). cond (x && is_before t stamp) None (held a o t)) e, λ h. not_both (bytes_eq name o) e ((bytes_eq-Decides name o).1 h.0))

@@ -19,7 +19,7 @@ use Rattle.pr_node.specs.Grammar.{IsSpelled}
 use Rattle.pr_node.specs.Writes.{IsClockWornIn, IsNextOwn}
 use Rattle.pr_node.proofs.Clocks.{clock_out, below_or_not}
 use Rattle.pr_node.proofs.Spelled.{named_covered}
-use Rattle.pr_wire.specs.Messages.{IsPrev}
+use Rattle.pr_inval.specs.Messages.{IsPrev}
 
 clock_is : (j : List Entry) (v : List ℕ) (w : ℕ) → v ≡ current_vector j → w < 32 → clock_of v w ≡ current_clock j w
 clock_is j v w is lt = ap (λ (x : List ℕ). clock_of x w) is ∙ clock_of-vector_of (current_clock j) w lt

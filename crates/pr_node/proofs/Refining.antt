@@ -21,7 +21,7 @@ use Rattle.pr_story.specs.Search.{IsNewestIn}
 use Rattle.pr_story.proofs.NewestNow.{accepted_newest}
 use Rattle.pr_node.specs.declared.stores.Stores.{Stores}
 use Rattle.pr_node.specs.Ties.{IsTied, IsMarksOf}
-use Rattle.pr_wire.specs.Messages.{IsKind}
+use Rattle.pr_inval.specs.Messages.{IsKind}
 use Rattle.pr_node.proofs.Logs.{refined_log, some_same}
 use Rattle.pr_node.proofs.Points.{covered_gaps}
 use Rattle.pr_node.proofs.Held.{body_step, settled_by}

@@ -25,13 +25,13 @@ use Rattle.pr_story.specs.declared.event.Event.{Event}
 use Rattle.pr_story.specs.declared.event.Event.TheVariants.{Wrote, Accepted, Cut}
 use Rattle.pr_story.specs.History.{Accepts, HasAccepted, Writes, SomeEvent, clock_brought, current_clock, current_vector}
 use Rattle.pr_story.specs.Knowledge.{IsOf, HasRow, TellsOf, HeardOf, NamesStamp, WasNamed, IsMark, floor_in, floor_after, floor_of}
-use Rattle.pr_story.specs.Ranges.{IsKind as IsKindInRange, IsRow as IsRowInRange, IsStampOrNone}
+use Rattle.pr_story.specs.Ranges.{IsKind as IsKindInRange, IsMsg, IsRow as IsRowInRange, IsStampOrNone}
 use Rattle.pr_story.specs.Turns.{IsTurn, SendTurn, IsSnapshot, IsSnapshotRow}
 use Rattle.pr_story.proofs.Basics.{clock_zero}
 use Rattle.pr_story.proofs.Known.{known_told, held_how}
-use Rattle.pr_story.proofs.Naming.{TellsMark, WasToldMark, known_mark_told}
-use Rattle.pr_wire.specs.Messages.{IsPrev, IsMark as IsMarkOfRow, IsRow, IsCheckpoint, IsKind, IsEarlierMark, IsEarlierRow, Rises, IsMessage}
-use Rattle.pr_node.specs.Grammar.{IsSpelled, IsSpelledEvent, IsStepSpelled}
+use Rattle.pr_story.proofs.Naming.{TellsMark, HeardOfMark, known_mark_told}
+use Rattle.pr_inval.specs.Messages.{AreInOrder, IsCheckpoint, IsEarlierMark, IsEarlierRow, IsKind, IsMark as IsMarkOfRow, IsMessage, IsPrev, IsRow}
+use Rattle.pr_node.specs.Grammar.{HasBytes, IsSpelled, IsSpelledEvent, IsStepSpelled}
 use Rattle.pr_node.specs.Ties.{IsMarkInRange}
 use Rattle.pr_node.proofs.Clocks.{vector_grows}
 
@@ -61,6 +61,18 @@ row_range floor to target row r = (
 
 pub rows_range : (to : List ℕ) (target : List ℕ → Bool) (floor : List ℕ) (rows : List Row) → IsCheckpoint to target floor rows → All IsRowInRange rows
 rows_range to target floor rows k = λ i d lt. row_range floor to target (get_or rows i d) (All-from_recursion (λ r. IsRow floor to target r) rows k.each i d lt)
+
+kind_range : (kind : Kind) → IsKind kind → HasBytes kind → IsKindInRange kind
+kind_range (Precise from to write) k bytes = (k.0, k.1, (k.3.name, k.3.stamp, prev_range write.prev write.stamp k.3.prev))
+kind_range (Imprecise from to target) k bytes = (k.0, k.1, k.3)
+kind_range (Checkpoint to target floor rows) k bytes = (k.1.end_is, k.0, k.1.floor_is, rows_range to (has target) floor rows k.1)
+kind_range (Body name stamp body) k bytes = (k.0, k.1, bytes)
+
+pub message_range : (msg : Msg) → IsMessage msg → msg.stream < 4294967296 → HasBytes msg.kind → IsMsg msg
+message_range msg m stream bytes =
+    let time : msg.time < 18446744073709551616 = omega (arith, m.most) in
+    let number : msg.number < 18446744073709551616 = omega (arith, m.number_most) in
+    (time, stream, number, kind_range msg.kind m.kind bytes)
 
 -- no mark of a row is after the row's newest stamp
 pub rows_orderly : (to : List ℕ) (target : List ℕ → Bool) (floor : List ℕ) (rows : List Row) → IsCheckpoint to target floor rows
@@ -180,7 +192,7 @@ mark_event e j (Accepted msg at) o m is k t = by msg.kind refl k t
     ]
 mark_event e j _ o m is k t = absurd t
 
-told_mark : (j : List Entry) → IsSpelled j → (o : List ℕ) (m : Mark) → WasToldMark j o m → MarkTold j o m × Covers (current_vector j) m.stamp
+told_mark : (j : List Entry) → IsSpelled j → (o : List ℕ) (m : Mark) → HeardOfMark j o m → MarkTold j o m × Covers (current_vector j) m.stamp
 told_mark [] spelled o m t = absurd t
 told_mark (e ∷ j) spelled o m t = elim t [
   | inl now ↦ mark_event e j e.event o m refl spelled.0 now
@@ -301,7 +313,7 @@ marks_of_row : (floor to : List ℕ) (row : Row) (marks : List Mark) → ((m : M
 marks_of_row floor to row [] each = tt
 marks_of_row floor to row (m ∷ ms) each = (each m (0, omega arith, refl), marks_of_row floor to row ms (λ x c. each x (suc c.0, omega (arith, c.1), c.2)))
 
-rises_by : {A : Type 0} (R : A → A → Type 0) (xs : List A) → AllPairs R xs → Rises R xs
+rises_by : {A : Type 0} (R : A → A → Type 0) (xs : List A) → AllPairs R xs → AreInOrder R xs
 rises_by R [] all = tt
 rises_by R (x ∷ []) all = (tt, tt)
 rises_by R (x ∷ y ∷ xs) all = (all 0 1 x (omega arith) (omega arith), rises_by R (y ∷ xs) (λ i k d lt within. all (suc i) (suc k) d (omega arith) (omega arith)))

@@ -13,7 +13,7 @@ use Rattle.pr_story.proofs.NewestNow.{wrote_newest}
 use Rattle.pr_node.specs.declared.stores.Stores.{Stores}
 use Rattle.pr_node.specs.Ties.{IsTied}
 use Rattle.pr_node.specs.Writes.{IsBodyKept}
-use Rattle.pr_wire.specs.Messages.{IsPrev}
+use Rattle.pr_inval.specs.Messages.{IsPrev}
 use Rattle.pr_node.proofs.Logs.{wrote_log}
 use Rattle.pr_node.proofs.Points.{wrote_gaps}
 use Rattle.pr_node.proofs.Held.{body_step, settled_by}

@@ -56,10 +56,11 @@ AddsAlone a b caller P = (sessions : ℕ → Standing) (needs : ℕ → List ℕ
 
 -- ---- faults
 
--- the journal stays, and the node is spent
+-- the journal and the sets stay, and the node is spent
 pub record IsSpentNow (a b : NodeMeaning) : Type 0 where
   pub same_journal : b.journal ≡ a.journal
   pub same_id : b.id ≡ a.id
+  pub same_sets : b.sets ≡ a.sets
   pub spent : b.spent ≡ true
 
 -- the fault of a call that is worn for this cause

@@ -3,10 +3,11 @@ use Rattle.std.specs.Prelude.{ℕ, List, ◌∷◌, ◌≡◌, ◌⊎◌, IsTrue
 use Rattle.pr_stamps.specs.Point.{Point, Before}
 use Rattle.pr_vectors.specs.Vector.{Le}
 use Rattle.pr_inval.specs.declared.kind.Kind.{Kind}
+use Rattle.pr_inval.specs.declared.kind.Kind.TheVariants.{Precise, Imprecise, Checkpoint, Body}
 use Rattle.pr_inval.specs.declared.msg.Msg.{Msg}
 use Rattle.pr_inval.specs.declared.row.Row.{Row}
 use Rattle.pr_inval.specs.Points.{from_of}
-use Rattle.pr_bodies.specs.Bodies.{Held, held, IsPut}
+use Rattle.pr_bodies.specs.Bodies.{Held, held, IsPut, IsSettled}
 use Rattle.pr_marks.specs.Table.{Table, newest_of}
 use Rattle.pr_marks.specs.declared.newest.Newest.{Newest}
 use Rattle.pr_story.specs.declared.entry.Entry.{Entry}
@@ -31,10 +32,24 @@ abbrev pub IsLate : Option Newest → Point → Type 0
 IsLate None stamp = ⊥
 IsLate (Some newest) stamp = Before stamp newest.stamp
 
--- the body is held, unless a later write to the name is known
+-- the body is held just where no later write to the name is known
 abbrev pub IsBodyTaken : Held → Held → Table → List ℕ → Point → List ℕ → Type 0
-IsBodyTaken a b m name stamp bytes = IsPut a b name stamp bytes ⊎ ((b ≡ a) × IsLate (newest_of m name) stamp)
+IsBodyTaken a b m name stamp bytes =
+    (IsPut a b name stamp bytes × ¬ IsLate (newest_of m name) stamp) ⊎ ((b ≡ a) × IsLate (newest_of m name) stamp)
 
--- no body is gone but those with stamps before a row's newest
+-- a row tells a later write to the name
+abbrev pub IsOutdated : List Row → List ℕ → Point → Type 0
+IsOutdated rows o t = (row : Row) × Contains rows row × (row.name ≡ o) × Before t row.newest
+
+-- the bodies with stamps before a row's newest are gone, and the others stay
 abbrev pub AreSettled : Held → Held → List Row → Type 0
-AreSettled a b rows = (o : List ℕ) (t : Point) → (held b o t ≡ held a o t) ⊎ ((row : Row) × Contains rows row × (row.name ≡ o) × Before t row.newest)
+AreSettled a b rows =
+    (o : List ℕ) (t : Point)
+    → ((held b o t ≡ held a o t) × ¬ IsOutdated rows o t) ⊎ ((held b o t ≡ None) × IsOutdated rows o t)
+
+-- what a message of this kind leaves of the bodies, where the table tells the writes known before it
+abbrev pub LeavesBodies : Held → Held → Table → Kind → Type 0
+LeavesBodies a b m (Precise from to write) = IsSettled a b write.name write.stamp
+LeavesBodies a b m (Imprecise from to target) = b ≡ a
+LeavesBodies a b m (Checkpoint to target floor rows) = AreSettled a b rows
+LeavesBodies a b m (Body name stamp bytes) = IsBodyTaken a b m name stamp bytes

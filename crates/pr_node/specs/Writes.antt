@@ -8,7 +8,7 @@ use Rattle.pr_story.specs.declared.entry.Entry.{Entry}
 use Rattle.pr_story.specs.History.{current_clock}
 use Rattle.pr_story.specs.Knowledge.{IsNewestKnown}
 use Rattle.pr_story.specs.Ranges.{IsWrite}
-use Rattle.pr_wire.specs.Messages.{IsPrev}
+use Rattle.pr_inval.specs.Messages.{IsPrev}
 
 -- the write that node n makes next
 pub record IsNextOwn (n : ℕ) (j : List Entry) (name : List ℕ) (gone : Bool) (write : WriteRec) : Type 0 where

@@ -11,7 +11,7 @@ ghost use Rattle.pr_node.specs.Ties.{AreApart};
 ghost use Rattle.pr_story.specs.History.{current_vector};
 ghost use Rattle.pr_story.specs.declared.event.Event.TheVariants.{Conflicts, Cut, Dropped};
 ghost use Rattle.pr_vectors.specs.Vector.{IsVector};
-ghost use Rattle.pr_wire.specs.Messages.{IsMessage};
+ghost use Rattle.pr_inval.specs.Messages.{IsMessage};
 ghost use Rattle.std.specs.Prelude.{◌≡◌, ◌≤◌, ◌<◌, [], true, false, Err, IfErr, IfOk, IsTrue, OnErr, OnOk, length, reverse};
 ghost use Rattle.pr_story.specs.Sessions.{HasGoneOn};
 
@@ -38,8 +38,8 @@ use std::alloc::Global;
 use std::marker::Model;
 
 /// One node of a replicated store. Each call that takes a caller's number makes exactly one entry of its journal, and
-/// nothing else of it is seen. After want of memory it is spent: its journal stays, and each later such call is
-/// refused.
+/// nothing else of it is seen. After want of memory it is spent: its journal and its sets stay, and each later such call
+/// is refused.
 #[derive(Drop)]
 pub struct Node {
     alloc: Global,

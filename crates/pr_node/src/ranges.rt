@@ -1,4 +1,6 @@
 // The parts of a message are in range: each is such as its type allows.
+ghost use Rattle.pr_inval.specs.Messages.{IsMessage};
+ghost use Rattle.pr_node.specs.Grammar.{HasBytes};
 ghost use Rattle.pr_stamps.specs.Point.{IsStamp};
 ghost use Rattle.pr_story.specs.Ranges.{IsBytes, IsKind, IsMsg, IsRow, IsStampOrNone, IsWrite};
 ghost use Rattle.std.specs.Prelude.{◌<◌, All};
@@ -9,19 +11,21 @@ use pr_sets::NameSet;
 use pr_stamps::{Mark, Stamp};
 use pr_vectors::Vector;
 
+// A message of the grammar is in range, which takes no walk over it.
 pub fn msg_in_range(msg: &Msg)
+    requires { IsMessage msg.now }
     ensures { IsMsg msg.now }
 {
-    long_in_range(msg.time);
     int_in_range(msg.stream);
-    long_in_range(msg.number);
-    kind_in_range(&msg.kind);
+    body_in_range(&msg.kind);
 }
 
-fn long_in_range(n: u64)
-    ensures { n < 18446744073709551616 }
+fn body_in_range(kind: &Kind)
+    ensures { HasBytes kind.now }
 {
-    let _ = n;
+    if let Kind::Body { bytes, .. } = kind {
+        bytes_in_range(bytes.as_slice());
+    }
 }
 
 fn int_in_range(n: u32)

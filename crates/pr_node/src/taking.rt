@@ -1,9 +1,10 @@
 // What a message changes of the stores.
 ghost use Rattle.pr_inval.specs.Points.{from_of};
 ghost use Rattle.pr_inval.specs.declared.kind.Kind.TheVariants.{Body, Checkpoint, Imprecise, Precise};
-ghost use Rattle.pr_node.specs.Taking.{AreSettled, HasTaken, IsBodyTaken, IsGap, IsLate};
+ghost use Rattle.pr_bodies.specs.Bodies.{IsSettled};
+ghost use Rattle.pr_node.specs.Taking.{AreSettled, HasTaken, IsBodyTaken, IsGap, IsLate, LeavesBodies};
 ghost use Rattle.pr_vectors.specs.Vector.{Le};
-ghost use Rattle.pr_wire.specs.Messages.{IsKind};
+ghost use Rattle.pr_inval.specs.Messages.{IsKind};
 ghost use Rattle.std.specs.Prelude.{◌≡◌, ◌↔◌, IsTrue, OnOk};
 
 use crate::Stores;
@@ -35,7 +36,8 @@ pub fn take(alloc: Global, stores: &mut Stores, kind: &Kind) -> Result<(), NoMem
     requires log { Le (from_of kind.now) stores.old.log.vector }
     requires gaps { stores.old.gaps.vector ≡ stores.old.log.vector }
     ensures taken { OnOk result (HasTaken stores.old stores.new kind.now) }
-    ensures sets { OnOk result (stores.new.gaps.sets ≡ stores.old.gaps.sets) }
+    ensures bodies { OnOk result (LeavesBodies stores.old.bodies stores.new.bodies stores.old.marks kind.now) }
+    ensures sets { stores.new.gaps.sets ≡ stores.old.gaps.sets }
 {
     match kind {
         Kind::Precise { from, to, write } => take_precise(alloc, stores, from, to, write),
@@ -62,7 +64,8 @@ fn take_precise(
     requires log { Le from.now stores.old.log.vector }
     requires gaps { stores.old.gaps.vector ≡ stores.old.log.vector }
     ensures taken { OnOk result (HasTaken stores.old stores.new (Precise from.now to.now write.now)) }
-    ensures sets { OnOk result (stores.new.gaps.sets ≡ stores.old.gaps.sets) }
+    ensures bodies { OnOk result (IsSettled stores.old.bodies stores.new.bodies write.now.name write.now.stamp) }
+    ensures sets { stores.new.gaps.sets ≡ stores.old.gaps.sets }
 {
     let none = NameSet::empty(alloc);
     let mark = mark_of(write);
@@ -83,7 +86,8 @@ fn take_imprecise(
     requires log { Le from.now stores.old.log.vector }
     requires gaps { stores.old.gaps.vector ≡ stores.old.log.vector }
     ensures taken { OnOk result (HasTaken stores.old stores.new (Imprecise from.now to.now target.now)) }
-    ensures sets { OnOk result (stores.new.gaps.sets ≡ stores.old.gaps.sets) }
+    ensures bodies { OnOk result (stores.new.bodies ≡ stores.old.bodies) }
+    ensures sets { stores.new.gaps.sets ≡ stores.old.gaps.sets }
 {
     stores.log.refine(from, to, target, None)?;
     stores.gaps.cover(from, to, target)?;
@@ -99,7 +103,8 @@ fn take_checkpoint(
 ) -> Result<(), NoMemory>
     requires grammar { IsKind (Checkpoint to.now target.now floor.now rows.now) }
     ensures taken { OnOk result (HasTaken stores.old stores.new (Checkpoint to.now target.now floor.now rows.now)) }
-    ensures sets { OnOk result (stores.new.gaps.sets ≡ stores.old.gaps.sets) }
+    ensures bodies { OnOk result (AreSettled stores.old.bodies stores.new.bodies rows.now) }
+    ensures sets { stores.new.gaps.sets ≡ stores.old.gaps.sets }
 {
     stores.log.darken(to)?;
     pr_snap::apply(&mut stores.gaps, &mut stores.marks, to, target, floor, rows)?;
@@ -118,7 +123,8 @@ fn settle_rows(bodies: &mut Bodies, rows: &[Row])
 fn take_body(stores: &mut Stores, name: &Name, stamp: &Stamp, bytes: &[u8]) -> Result<(), NoMemory>
     requires grammar { IsKind (Body name.now stamp.now bytes.now) }
     ensures taken { OnOk result (HasTaken stores.old stores.new (Body name.now stamp.now bytes.now)) }
-    ensures sets { OnOk result (stores.new.gaps.sets ≡ stores.old.gaps.sets) }
+    ensures bodies { OnOk result (IsBodyTaken stores.old.bodies stores.new.bodies stores.old.marks name.now stamp.now bytes.now) }
+    ensures sets { stores.new.gaps.sets ≡ stores.old.gaps.sets }
 {
     hold(&mut stores.bodies, &stores.marks, name, stamp, bytes)?;
     Ok(())

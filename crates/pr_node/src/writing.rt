@@ -7,7 +7,7 @@ ghost use Rattle.pr_story.specs.Ranges.{IsStampOrNone};
 ghost use Rattle.pr_story.specs.declared.entry.Entry.{Entry};
 ghost use Rattle.pr_story.specs.declared.event.Event.TheVariants.{Wrote};
 ghost use Rattle.pr_vectors.specs.Vector.{clock_of};
-ghost use Rattle.pr_wire.specs.Messages.{IsPrev};
+ghost use Rattle.pr_inval.specs.Messages.{IsPrev};
 ghost use Rattle.std.specs.Option.{option_map};
 ghost use Rattle.std.specs.Prelude.{◌≡◌, ◌<◌, ◌≤◌, ◌∷◌, ℕ, List, None, IfSome, OnOk, length};
 
@@ -56,7 +56,7 @@ pub fn keep_write(stores: &mut Stores, write: &WriteRec, body: &[u8]) -> Result<
     requires own { write.now.stamp.node ≡ stores.old.log.node }
     requires above { clock_of stores.old.log.vector write.now.stamp.node < write.now.stamp.clock }
     ensures tied { OnOk result ((j : List Entry) (time caller client : ℕ) (after : List ℕ) → IsTied write.now.stamp.node j stores.old → IsTied write.now.stamp.node (record { time = time; caller = caller; event = Wrote client write.now body.now after } ∷ j) stores.new) }
-    ensures sets { OnOk result (stores.new.gaps.sets ≡ stores.old.gaps.sets) }
+    ensures sets { stores.new.gaps.sets ≡ stores.old.gaps.sets }
 {
     stores.log.add_own(write)?;
     stores.gaps.own(write.stamp.clock());

@@ -3,7 +3,7 @@ ghost use Rattle.pr_ports.specs.Faults.{GivesAtMost, HasRisen};
 ghost use Rattle.pr_ports.specs.Memory.{Holds, next_call};
 ghost use Rattle.std.specs.Io.{WritesAtMost};
 ghost use Rattle.std.specs.Io.KnownBytes.{WriteAppends};
-ghost use Rattle.std.specs.Prelude.{◌≡◌, ◌≤◌, ◌<◌, ◌↔◌, ◌⊎◌, [], Contains, IfOk, IsErr, Ok, OnErr, Some, length};
+ghost use Rattle.std.specs.Prelude.{◌≡◌, ◌≤◌, ◌<◌, ◌↔◌, ◌⊎◌, [], Contains, IfOk, IsErr, Ok, OnErr, OnOk, Some, length, min};
 
 use crate::{Failed, Sink};
 use pr_stamps::NoMemory;
@@ -77,6 +77,8 @@ impl Sink for MemorySink {
         // It fails exactly at the calls that it was told, and where a piece comes and no room is left.
         ensures told { IsErr result ↔ (Contains self.old.fail (next_call self.old.calls) ⊎ ((self.old.room ≡ 0) × (0 < length piece.now))) }
         ensures piece { GivesAtMost result self.old.piece }
+        ensures taken { IfOk result (λ n. n ≡ min (min (length piece.now) self.old.piece) self.old.room) }
+        ensures quiet { OnOk result (self.new.faults ≡ self.old.faults) }
         ensures stays { Holds self.old self.new }
     {
         self.calls = self.calls.saturating_add(1);

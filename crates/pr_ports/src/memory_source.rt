@@ -2,7 +2,7 @@
 ghost use Rattle.pr_ports.specs.Faults.{GivesAtMost, HasRisen};
 ghost use Rattle.pr_ports.specs.Memory.{Remains, next_call};
 ghost use Rattle.std.specs.Io.KnownBytes.{ReadConsumes};
-ghost use Rattle.std.specs.Prelude.{◌≡◌, ◌≤◌, ◌↔◌, Contains, IsErr, OnErr, Some, length};
+ghost use Rattle.std.specs.Prelude.{◌≡◌, ◌≤◌, ◌↔◌, Contains, IfOk, IsErr, OnErr, OnOk, Some, length, min};
 
 use crate::copying::give;
 use crate::{Failed, Source};
@@ -61,6 +61,8 @@ impl Source for MemorySource {
         // It fails exactly at the calls that it was told.
         ensures told { IsErr result ↔ Contains self.old.fail (next_call self.old.calls) }
         ensures piece { GivesAtMost result self.old.piece }
+        ensures given { IfOk result (λ n. n ≡ min (min (length self.old.left) self.old.piece) (length buf.old)) }
+        ensures quiet { OnOk result (self.new.faults ≡ self.old.faults) }
         ensures stays { Remains self.old self.new }
     {
         self.calls = self.calls.saturating_add(1);

@@ -1,5 +1,8 @@
 // A sink over a writer of std.
-ghost use Rattle.std.specs.Prelude.{◌≡◌};
+ghost use Rattle.pr_ports.specs.Faults.{HasRisen};
+ghost use Rattle.std.specs.Io.{WritesAtMost};
+ghost use Rattle.std.specs.Io.KnownBytes.{WriteAppends};
+ghost use Rattle.std.specs.Prelude.{◌≡◌, ◌≤◌, ◌<◌, IfOk, Ok, OnErr, length};
 
 use crate::{Failed, Sink};
 use std::io::Write;
@@ -35,7 +38,14 @@ impl<W: Write> Sink for WriterSink<W> {
 
     ghost faults = { λ s. s.faults };
 
-    fn write(&mut self, piece: &[u8]) -> Result<usize, Failed> {
+    fn write(&mut self, piece: &[u8]) -> Result<usize, Failed>
+        ensures count { WritesAtMost result piece.now }
+        ensures bytes { WriteAppends (W.contents self.old.inner) (W.contents self.new.inner) result piece.now }
+        ensures rises { self.old.faults ≤ self.new.faults }
+        ensures failed { OnErr result (HasRisen self.old.faults self.new.faults) }
+        ensures none_taken { result ≡ Ok 0 → 0 < length piece.now → HasRisen self.old.faults self.new.faults }
+        ensures quiet { IfOk result (λ n. 0 < n → self.new.faults ≡ self.old.faults) }
+    {
         match self.inner.write(piece) {
             Ok(count) => {
                 if count == 0 && !piece.is_empty() {

@@ -43,7 +43,7 @@ distinct_more (m ∷ ls) l h n =
     (all_more (λ x. ¬ (m ≡ x)) ls l h.0 (other l m p.0), distinct_more ls l h.1 p.1)
 
 -- what one more declaration adds to the labels of a kind
-abbrev added : Bool → Decl → List (List ℕ)
+abbrev pub added : Bool → Decl → List (List ℕ)
 added true d = label_of d ∷ []
 added false d = []
 
@@ -51,7 +51,7 @@ labels_one : (t : Bool) (d : Decl) → map label_of (cond t (d ∷ []) []) ≡ a
 labels_one true d = refl
 labels_one false d = refl
 
-labels_more : (k : Kind) (ds : List Decl) (d : Decl) → labels_of k (ds ++ d ∷ []) ≡ labels_of k ds ++ added (is_kind k d) d
+pub labels_more : (k : Kind) (ds : List Decl) (d : Decl) → labels_of k (ds ++ d ∷ []) ≡ labels_of k ds ++ added (is_kind k d) d
 unfolding labels_of
 labels_more k ds d =
     ap (map label_of) (filter-append (is_kind k) ds (d ∷ []))

@@ -18,4 +18,8 @@ pub mod WordsAgain
 pub mod LinesAgain
 pub mod WholeScript
 pub mod Accepted
+pub mod GoodLines
+pub mod GoodScripts
+pub mod Stepping
 pub mod Spelled
+pub mod Beginnings

@@ -5,6 +5,8 @@ pub mod Labels
 pub mod Packed
 pub mod Known
 pub mod Parts
+pub mod Steps
+pub mod Good
 pub mod Lines
 pub mod Reading
 pub mod Answers

@@ -1,5 +1,5 @@
 -- The one spelling of a script.
-use Rattle.std.specs.Prelude.{ℕ, ◌+◌, ◌/◌, ◌%◌, List, [], ◌∷◌, ◌++◌, Bool, true, false, nat_lt, get_or, map, codes, decimal, if◌then◌else◌}
+use Rattle.std.specs.Prelude.{◌≡◌, ℕ, ◌+◌, ◌/◌, ◌%◌, List, [], ◌∷◌, ◌++◌, Bool, true, false, nat_lt, get_or, map, take, length, codes, decimal, if◌then◌else◌}
 use Rattle.std.specs.List.{flat_map}
 use Rattle.pr_names.specs.Span.{Span}
 use Rattle.pr_sets.specs.Text.{set_text}
@@ -102,3 +102,9 @@ script_lines s = decl_lines [] s.decls.list ++ command_lines s.decls.list s.comm
 -- a script as it is printed
 abbrev pub script_text : Script → List ℕ
 script_text s = flat_map ended (script_lines s)
+
+-- ---- what a refusal leaves
+
+-- the list begins with the bytes that it had
+abbrev pub Begins : List ℕ → List ℕ → Type 0
+Begins old new = take (length old) new ≡ old

@@ -1,6 +1,6 @@
 // What holds of all scripts.
 ghost use Rattle.pr_names.specs.Span.{Span};
-ghost use Rattle.pr_script.specs.Laws.{HaveAMeaning, HaveLabels, HaveOneMeaning, ReadsBack};
+ghost use Rattle.pr_script.specs.Laws.{AreGoodScripts, HaveAMeaning, HaveLabels, HaveOneMeaning, ReadsBack, StepAlone, StepOfPhase};
 ghost use Rattle.pr_script.specs.Sets.{share};
 ghost use Rattle.pr_sets.specs.Spans.{IsSet, Meet, has};
 ghost use Rattle.std.specs.Prelude.{◌↔◌, IsTrue, List};
@@ -25,4 +25,17 @@ pub fn printed_scripts_read_back()
 /// nodes, 256 clients and 64 streams.
 pub fn labels_tell_declarations_apart()
     ensures { HaveLabels }
+{}
+
+/// A script that is read is good for a run: its declarations are such as nodes and sessions ask for, each command names
+/// what is declared, each stream that it uses is attached, and each phase has its end, few jobs and no stream twice.
+pub fn accepted_scripts_are_good()
+    ensures { AreGoodScripts }
+{}
+
+/// A script's steps, one after the other: a command that is no `phase` is one, and where each phase has its end, a phase
+/// is one with the commands before that end.
+pub fn steps_follow_the_commands()
+    ensures alone { StepAlone }
+    ensures phase { StepOfPhase }
 {}

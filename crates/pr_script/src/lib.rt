@@ -17,6 +17,7 @@ mod lines;
 mod nodes;
 mod number;
 mod numbers;
+mod owner;
 mod parts;
 mod printer;
 mod progress;
@@ -39,9 +40,10 @@ pub use fault::ScriptFault;
 pub use kind::Kind;
 pub use labels::{is_kind, label_at, label_of};
 pub use law::{
-    labels_tell_declarations_apart, printed_scripts_read_back, scripts_have_one_meaning,
-    sets_share_a_name_where_intervals_overlap,
+    accepted_scripts_are_good, labels_tell_declarations_apart, printed_scripts_read_back,
+    scripts_have_one_meaning, sets_share_a_name_where_intervals_overlap, steps_follow_the_commands,
 };
+pub use owner::{Owner, is_same_owner, owner_of, owners, phase_len};
 pub use printer::{print, print_decls};
 pub use reader::{Reader, read};
 pub use script::Script;

@@ -1,9 +1,11 @@
 // Printing scripts.
-ghost use Rattle.pr_script.specs.Printing.{bodies_text, command_lines, command_text, decl_lines, decl_text, label_field, quoted, script_text, want_text};
+#![tactic(auto, using(crate::proofs::Beginnings::grown))]
+
+ghost use Rattle.pr_script.specs.Printing.{Begins, bodies_text, command_lines, command_text, decl_lines, decl_text, label_field, quoted, script_text, want_text};
 ghost use Rattle.pr_script.specs.Reading.{ended};
 ghost use Rattle.std.specs.List.{flat_map};
 ghost use Rattle.pr_script.specs.declared.kind.Kind.TheVariants as kinds;
-ghost use Rattle.std.specs.Prelude.{◌≡◌, ◌∷◌, ◌++◌, [], OnOk, codes, decimal};
+ghost use Rattle.std.specs.Prelude.{◌≡◌, ◌∷◌, ◌++◌, [], OnErr, OnOk, codes, decimal};
 
 use crate::kind::Kind;
 use crate::labels::label_at;
@@ -14,10 +16,11 @@ use pr_stamps::NoMemory;
 
 /// Adds the script's text: a line for each declaration and each command, with one space between two fields and each set
 /// as its one list. What is printed of an accepted script is read as the same script but for the numbers of lines. After
-/// a refusal a part of the text may have been added. Each label is looked up among the declarations, and all else is
-/// linear in the text.
+/// a refusal a part of the text may stand behind what `out` had. Each label is looked up among the declarations, and all
+/// else is linear in the text.
 pub fn print(script: &Script, out: &mut Bytes) -> Result<(), NoMemory>
-    ensures { OnOk result (out.new ≡ out.old ++ script_text script.now) }
+    ensures ok { OnOk result (out.new ≡ out.old ++ script_text script.now) }
+    ensures err { OnErr result (Begins out.old out.new) }
 {
     let decls = script.decls.list.as_slice();
     print_decls(decls, out)?;
@@ -26,7 +29,8 @@ pub fn print(script: &Script, out: &mut Bytes) -> Result<(), NoMemory>
 
 /// Adds the declarations' lines, as `print` does.
 pub fn print_decls(decls: &[Decl], out: &mut Bytes) -> Result<(), NoMemory>
-    ensures { OnOk result (out.new ≡ out.old ++ flat_map ended (decl_lines [] decls.now)) }
+    ensures ok { OnOk result (out.new ≡ out.old ++ flat_map ended (decl_lines [] decls.now)) }
+    ensures err { OnErr result (Begins out.old out.new) }
 {
     for i in 0..decls.len() {
         print_decl(&decls[..i], &decls[i], out)?;
@@ -39,7 +43,8 @@ fn print_commands(
     commands: &[(u64, Command)],
     out: &mut Bytes,
 ) -> Result<(), NoMemory>
-    ensures { OnOk result (out.new ≡ out.old ++ flat_map ended (command_lines decls.now commands.now)) }
+    ensures ok { OnOk result (out.new ≡ out.old ++ flat_map ended (command_lines decls.now commands.now)) }
+    ensures err { OnErr result (Begins out.old out.new) }
 {
     for command in commands {
         print_command(decls, &command.1, out)?;
@@ -49,17 +54,19 @@ fn print_commands(
 }
 
 // The line of a declaration, behind those before it.
-#[tactic(auto, unfolding(crate::specs::Printing::decl_text))]
+#[tactic(auto, using(crate::proofs::Beginnings::grown), unfolding(crate::specs::Printing::decl_text))]
 fn print_decl(front: &[Decl], decl: &Decl, out: &mut Bytes) -> Result<(), NoMemory>
-    ensures { OnOk result (out.new ≡ out.old ++ ended (decl_text front.now decl.now)) }
+    ensures ok { OnOk result (out.new ≡ out.old ++ ended (decl_text front.now decl.now)) }
+    ensures err { OnErr result (Begins out.old out.new) }
 {
     decl_fields(front, decl, out)?;
     out.push(b'\n')
 }
 
-#[tactic(auto, unfolding(crate::specs::Printing::decl_text))]
+#[tactic(auto, using(crate::proofs::Beginnings::grown), unfolding(crate::specs::Printing::decl_text))]
 fn decl_fields(front: &[Decl], decl: &Decl, out: &mut Bytes) -> Result<(), NoMemory>
-    ensures { OnOk result (out.new ≡ out.old ++ decl_text front.now decl.now) }
+    ensures ok { OnOk result (out.new ≡ out.old ++ decl_text front.now decl.now) }
+    ensures err { OnErr result (Begins out.old out.new) }
 {
     match decl {
         Decl::Node { label, sets } => {
@@ -88,7 +95,8 @@ fn decl_fields(front: &[Decl], decl: &Decl, out: &mut Bytes) -> Result<(), NoMem
 }
 
 fn bodies_field(out: &mut Bytes, bodies: bool) -> Result<(), NoMemory>
-    ensures { OnOk result (out.new ≡ out.old ++ bodies_text bodies) }
+    ensures ok { OnOk result (out.new ≡ out.old ++ bodies_text bodies) }
+    ensures err { OnErr result (Begins out.old out.new) }
 {
     if bodies {
         return out.extend(b" bodies");
@@ -96,9 +104,10 @@ fn bodies_field(out: &mut Bytes, bodies: bool) -> Result<(), NoMemory>
     Ok(())
 }
 
-#[tactic(auto, unfolding(crate::specs::Printing::command_text))]
+#[tactic(auto, using(crate::proofs::Beginnings::grown), unfolding(crate::specs::Printing::command_text))]
 fn print_command(decls: &[Decl], command: &Command, out: &mut Bytes) -> Result<(), NoMemory>
-    ensures { OnOk result (out.new ≡ out.old ++ command_text decls.now command.now) }
+    ensures ok { OnOk result (out.new ≡ out.old ++ command_text decls.now command.now) }
+    ensures err { OnErr result (Begins out.old out.new) }
 {
     match command {
         Command::Attach { stream } => at_stream(b"attach", decls, *stream, out),
@@ -124,7 +133,8 @@ fn print_command(decls: &[Decl], command: &Command, out: &mut Bytes) -> Result<(
 
 // A word and a stream.
 fn at_stream(word: &[u8], decls: &[Decl], stream: u32, out: &mut Bytes) -> Result<(), NoMemory>
-    ensures { OnOk result (out.new ≡ out.old ++ (word.now ++ label_field kinds.Stream decls.now stream)) }
+    ensures ok { OnOk result (out.new ≡ out.old ++ (word.now ++ label_field kinds.Stream decls.now stream)) }
+    ensures err { OnErr result (Begins out.old out.new) }
 {
     one(out, word, label_at(decls, Kind::Stream, stream))
 }
@@ -137,7 +147,8 @@ fn times(
     number: u64,
     out: &mut Bytes,
 ) -> Result<(), NoMemory>
-    ensures { OnOk result (out.new ≡ out.old ++ (word.now ++ (label_field kinds.Stream decls.now stream ++ (32 ∷ decimal number)))) }
+    ensures ok { OnOk result (out.new ≡ out.old ++ (word.now ++ (label_field kinds.Stream decls.now stream ++ (32 ∷ decimal number)))) }
+    ensures err { OnErr result (Begins out.old out.new) }
 {
     counted(out, word, label_at(decls, Kind::Stream, stream), number)
 }
@@ -149,7 +160,8 @@ fn write(
     body: &Bytes,
     out: &mut Bytes,
 ) -> Result<(), NoMemory>
-    ensures { OnOk result (out.new ≡ out.old ++ (codes "write" ++ (label_field kinds.Client decls.now client ++ (32 ∷ (name.now ++ (32 ∷ quoted body.now)))))) }
+    ensures ok { OnOk result (out.new ≡ out.old ++ (codes "write" ++ (label_field kinds.Client decls.now client ++ (32 ∷ (name.now ++ (32 ∷ quoted body.now)))))) }
+    ensures err { OnErr result (Begins out.old out.new) }
 {
     of_client(b"write", decls, client, name, out)?;
     print_text(out, body.as_slice())
@@ -163,7 +175,8 @@ fn of_client(
     name: &Name,
     out: &mut Bytes,
 ) -> Result<(), NoMemory>
-    ensures { OnOk result (out.new ≡ out.old ++ (word.now ++ (label_field kinds.Client decls.now client ++ (32 ∷ name.now)))) }
+    ensures ok { OnOk result (out.new ≡ out.old ++ (word.now ++ (label_field kinds.Client decls.now client ++ (32 ∷ name.now)))) }
+    ensures err { OnErr result (Begins out.old out.new) }
 {
     two(
         out,
@@ -174,7 +187,8 @@ fn of_client(
 }
 
 fn moved(decls: &[Decl], client: u32, node: u32, out: &mut Bytes) -> Result<(), NoMemory>
-    ensures { OnOk result (out.new ≡ out.old ++ (codes "move" ++ (label_field kinds.Client decls.now client ++ label_field kinds.Node decls.now node))) }
+    ensures ok { OnOk result (out.new ≡ out.old ++ (codes "move" ++ (label_field kinds.Client decls.now client ++ label_field kinds.Node decls.now node))) }
+    ensures err { OnErr result (Begins out.old out.new) }
 {
     let client = label_at(decls, Kind::Client, client);
     two(out, b"move", client, label_at(decls, Kind::Node, node))
@@ -182,7 +196,8 @@ fn moved(decls: &[Decl], client: u32, node: u32, out: &mut Bytes) -> Result<(), 
 
 // A word and a node.
 fn at_node(word: &[u8], decls: &[Decl], node: u32, out: &mut Bytes) -> Result<(), NoMemory>
-    ensures { OnOk result (out.new ≡ out.old ++ (word.now ++ label_field kinds.Node decls.now node)) }
+    ensures ok { OnOk result (out.new ≡ out.old ++ (word.now ++ label_field kinds.Node decls.now node)) }
+    ensures err { OnErr result (Begins out.old out.new) }
 {
     one(out, word, label_at(decls, Kind::Node, node))
 }
@@ -195,14 +210,16 @@ fn of_node(
     name: &Name,
     out: &mut Bytes,
 ) -> Result<(), NoMemory>
-    ensures { OnOk result (out.new ≡ out.old ++ (word.now ++ (label_field kinds.Node decls.now node ++ (32 ∷ name.now)))) }
+    ensures ok { OnOk result (out.new ≡ out.old ++ (word.now ++ (label_field kinds.Node decls.now node ++ (32 ∷ name.now)))) }
+    ensures err { OnErr result (Begins out.old out.new) }
 {
     two(out, word, label_at(decls, Kind::Node, node), name.bytes())
 }
 
-#[tactic(auto, unfolding(crate::specs::Printing::want_text))]
+#[tactic(auto, using(crate::proofs::Beginnings::grown), unfolding(crate::specs::Printing::want_text))]
 fn expected(out: &mut Bytes, want: &Want) -> Result<(), NoMemory>
-    ensures { OnOk result (out.new ≡ out.old ++ (codes "expect" ++ (32 ∷ want_text want.now))) }
+    ensures ok { OnOk result (out.new ≡ out.old ++ (codes "expect" ++ (32 ∷ want_text want.now))) }
+    ensures err { OnErr result (Begins out.old out.new) }
 {
     match want {
         Want::Value(text) => {

@@ -1,5 +1,6 @@
 // Reading in any pieces.
 ghost use Rattle.pr_script.specs.Answers.{Answers, Holds, IsEnd};
+ghost use Rattle.pr_script.specs.Good.{IsGood};
 ghost use Rattle.pr_script.specs.Labels.{AreLabels};
 ghost use Rattle.pr_script.specs.Reading.{StandsFor};
 ghost use Rattle.pr_script.specs.declared.fault.ScriptFault.TheVariants as faults;
@@ -64,6 +65,7 @@ impl Reader {
     pub fn finish(self) -> Result<Script, ScriptFault>
         ensures exact { (before : List ℕ) → Holds self before → Answers result before }
         ensures labels { (before : List ℕ) → Holds self before → IfOk result (λ s. AreLabels s.decls.list) }
+        ensures good { (before : List ℕ) → Holds self before → IfOk result IsGood }
         ensures spent { self.spent ≡ true → IsErrOf result faults.NoMemory }
     {
         if self.spent {
@@ -83,6 +85,7 @@ impl Reader {
 pub fn read(alloc: Global, bytes: &[u8]) -> Result<Script, ScriptFault>
     ensures exact { Answers result bytes.now }
     ensures labels { IfOk result (λ s. AreLabels s.decls.list) }
+    ensures good { IfOk result IsGood }
 {
     let mut reader = Reader::new(alloc);
     match reader.push(bytes) {

@@ -1,7 +1,9 @@
 // The fields of printed lines, each behind a space.
-ghost use Rattle.pr_script.specs.Printing.{hex_digit, quoted, sets_text, spell};
+#![tactic(auto, using(crate::proofs::Beginnings::grown))]
+
+ghost use Rattle.pr_script.specs.Printing.{Begins, hex_digit, quoted, sets_text, spell};
 ghost use Rattle.pr_sets.specs.Text.{set_text};
-ghost use Rattle.std.specs.Prelude.{◌≡◌, ◌<◌, ◌∷◌, ◌++◌, OnOk, decimal};
+ghost use Rattle.std.specs.Prelude.{◌≡◌, ◌<◌, ◌∷◌, ◌++◌, OnErr, OnOk, decimal};
 
 use crate::Bytes;
 use crate::text::bare;
@@ -10,7 +12,8 @@ use pr_sets::NameSet;
 use pr_stamps::NoMemory;
 
 pub fn field(out: &mut Bytes, bytes: &[u8]) -> Result<(), NoMemory>
-    ensures { OnOk result (out.new ≡ out.old ++ 32 ∷ bytes.now) }
+    ensures ok { OnOk result (out.new ≡ out.old ++ 32 ∷ bytes.now) }
+    ensures err { OnErr result (Begins out.old out.new) }
 {
     out.push(b' ')?;
     out.extend(bytes)
@@ -18,7 +21,8 @@ pub fn field(out: &mut Bytes, bytes: &[u8]) -> Result<(), NoMemory>
 
 /// A word and a field.
 pub fn one(out: &mut Bytes, word: &[u8], first: &[u8]) -> Result<(), NoMemory>
-    ensures { OnOk result (out.new ≡ out.old ++ (word.now ++ (32 ∷ first.now))) }
+    ensures ok { OnOk result (out.new ≡ out.old ++ (word.now ++ (32 ∷ first.now))) }
+    ensures err { OnErr result (Begins out.old out.new) }
 {
     out.extend(word)?;
     field(out, first)
@@ -26,7 +30,8 @@ pub fn one(out: &mut Bytes, word: &[u8], first: &[u8]) -> Result<(), NoMemory>
 
 /// A word and two fields.
 pub fn two(out: &mut Bytes, word: &[u8], first: &[u8], second: &[u8]) -> Result<(), NoMemory>
-    ensures { OnOk result (out.new ≡ out.old ++ (word.now ++ (32 ∷ (first.now ++ (32 ∷ second.now))))) }
+    ensures err { OnErr result (Begins out.old out.new) }
+    ensures ok { OnOk result (out.new ≡ out.old ++ (word.now ++ (32 ∷ (first.now ++ (32 ∷ second.now))))) }
 {
     one(out, word, first)?;
     field(out, second)
@@ -34,7 +39,8 @@ pub fn two(out: &mut Bytes, word: &[u8], first: &[u8], second: &[u8]) -> Result<
 
 /// A word, a field and a number.
 pub fn counted(out: &mut Bytes, word: &[u8], first: &[u8], number: u64) -> Result<(), NoMemory>
-    ensures { OnOk result (out.new ≡ out.old ++ (word.now ++ (32 ∷ (first.now ++ (32 ∷ decimal number))))) }
+    ensures ok { OnOk result (out.new ≡ out.old ++ (word.now ++ (32 ∷ (first.now ++ (32 ∷ decimal number))))) }
+    ensures err { OnErr result (Begins out.old out.new) }
 {
     let mut digits = Buffer::new();
     two(out, word, first, digits.format(number).as_bytes())
@@ -43,7 +49,8 @@ pub fn counted(out: &mut Bytes, word: &[u8], first: &[u8], number: u64) -> Resul
 /// Adds a space and the text in quotes. A byte outside 0x20 to 0x7E, a quote and a backslash are written as a backslash
 /// and two digits of 0-9 a-f.
 pub fn print_text(out: &mut Bytes, text: &[u8]) -> Result<(), NoMemory>
-    ensures { OnOk result (out.new ≡ out.old ++ 32 ∷ quoted text.now) }
+    ensures ok { OnOk result (out.new ≡ out.old ++ 32 ∷ quoted text.now) }
+    ensures err { OnErr result (Begins out.old out.new) }
 {
     out.extend(b" \"")?;
     for b in text {
@@ -52,9 +59,10 @@ pub fn print_text(out: &mut Bytes, text: &[u8]) -> Result<(), NoMemory>
     out.push(b'"')
 }
 
-#[tactic(auto, unfolding(crate::specs::Printing::spell))]
+#[tactic(auto, using(crate::proofs::Beginnings::grown), unfolding(crate::specs::Printing::spell))]
 fn spell(out: &mut Bytes, b: u8) -> Result<(), NoMemory>
-    ensures { OnOk result (out.new ≡ out.old ++ spell b) }
+    ensures ok { OnOk result (out.new ≡ out.old ++ spell b) }
+    ensures err { OnErr result (Begins out.old out.new) }
 {
     if bare(b) {
         return out.push(b);
@@ -71,14 +79,16 @@ pub fn hex_digit(n: u8) -> u8
 }
 
 pub fn set_field(out: &mut Bytes, set: &NameSet) -> Result<(), NoMemory>
-    ensures { OnOk result (out.new ≡ out.old ++ 32 ∷ set_text set.now) }
+    ensures ok { OnOk result (out.new ≡ out.old ++ 32 ∷ set_text set.now) }
+    ensures err { OnErr result (Begins out.old out.new) }
 {
     out.push(b' ')?;
     set.print(out)
 }
 
 pub fn sets_fields(out: &mut Bytes, sets: &[NameSet]) -> Result<(), NoMemory>
-    ensures { OnOk result (out.new ≡ out.old ++ sets_text sets.now) }
+    ensures ok { OnOk result (out.new ≡ out.old ++ sets_text sets.now) }
+    ensures err { OnErr result (Begins out.old out.new) }
 {
     for set in sets {
         set_field(out, set)?;

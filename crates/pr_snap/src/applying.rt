@@ -23,6 +23,7 @@ pub fn apply(
     rows: &[Row],
 ) -> Result<(), NoMemory>
     ensures ok { OnOk result (IsApplied gaps.old gaps.new marks.old marks.new to.now target.now floor.now rows.now) }
+    ensures sets { gaps.new.sets ≡ gaps.old.sets }
     ensures gaps_work { OnOk result (gaps.new.spent ≡ false) }
     ensures marks_work { OnOk result (marks.old.spent ≡ false → marks.new.spent ≡ false) }
     ensures err { OnErr result ((gaps.new.spent ≡ true) ⊎ (marks.new.spent ≡ true)) }

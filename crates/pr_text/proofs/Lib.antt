@@ -8,3 +8,5 @@ pub mod Fields
 pub mod Messages
 pub mod Sentences
 pub mod Histories
+pub mod Runs
+pub mod Apart

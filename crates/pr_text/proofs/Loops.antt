@@ -1,9 +1,11 @@
 -- What loops have still to write.
 use Rattle.std.proofs.Common.{◌≡◌, ℕ, ◌+◌, ◌<◌, ◌≤◌, List, [], ◌∷◌, ◌++◌, cond, Bool, true, false, refl, sym, ap, ◌∙◌, arith, map, drop, length, get_or, append_assoc}
-use Rattle.std.specs.Prelude.{nat_eq, ◌==◌, Result, Ok, Err, OnOk}
+use Rattle.std.specs.Prelude.{nat_eq, ◌==◌, Result, Ok, Err, OnErr, OnOk}
 use Rattle.std.specs.List.{flat_map}
 use Rattle.std.proofs.lemmas.Bool.Decides.{nat_tests}
 use Rattle.std.proofs.lemmas.List.{drop_more, drop_all, append-nil}
+use Rattle.pr_script.specs.Printing.{Begins}
+use Rattle.pr_script.proofs.Beginnings.{grown}
 use Rattle.pr_text.specs.Texts.{between, joined, listed, more}
 
 -- ---- items joined by a byte
@@ -101,3 +103,10 @@ line_turn f xs i x text new all lt is p e =
 pub lines_ended : {T : Type 0} (f : T → List ℕ) (xs : List T) (i : ℕ) (text all : List ℕ)
     → length xs ≤ i → text ++ flat_map f (drop i xs) ≡ all → text ≡ all
 lines_ended f xs i text all le e = sym (append-nil text) ∙ ap (λ t. text ++ flat_map f t) (sym (drop_all i xs le)) ∙ e
+
+-- ---- what a refusal leaves
+
+-- what begins with more than there was begins with what there was
+pub begun_on : {A E : Type 0} (r : Result A E) (new mid old more : List ℕ) → mid ≡ old ++ more → OnErr r (Begins mid new) → OnErr r (Begins old new)
+begun_on (Ok x) new mid old more e h = tt
+begun_on (Err x) new mid old more e h = grown old more mid new e h

@@ -4,3 +4,6 @@ pub mod Heads
 pub mod Numbers
 pub mod Transcripts
 pub mod Endings
+pub mod Steps
+pub mod Histories
+pub mod Laws

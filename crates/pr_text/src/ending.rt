@@ -1,16 +1,20 @@
 // The last lines.
+#![tactic(auto, using(pr_script::proofs::Beginnings::grown))]
+
+ghost use Rattle.pr_script.specs.Printing.{Begins};
 ghost use Rattle.pr_text.specs.Endings.{bad_cause, error_line, hex_byte, lied_cause, ok_line, unmet_line};
 ghost use Rattle.std.specs.List.{flat_map};
-ghost use Rattle.std.specs.Prelude.{◌≡◌, ◌++◌, OnOk, codes};
+ghost use Rattle.std.specs.Prelude.{◌≡◌, ◌++◌, OnErr, OnOk, codes};
 
 use crate::label::push_about;
 use crate::stamp::push_number;
 use pr_script::{Bytes, Decl, Decls, Kind, hex_digit};
 use pr_stamps::NoMemory;
 
-/// Adds `ok N`, for N lines before it. This and the others here may leave a part of their line after a refusal.
+/// Adds `ok N`, for N lines before it. After a refusal of this and the others here a part of the line may stand behind what `out` had.
 pub fn ok(lines: u64, out: &mut Bytes) -> Result<(), NoMemory>
-    ensures { OnOk result (out.new ≡ out.old ++ ok_line lines) }
+    ensures ok { OnOk result (out.new ≡ out.old ++ ok_line lines) }
+    ensures err { OnErr result (Begins out.old out.new) }
 {
     out.extend(b"ok")?;
     push_number(lines, out)?;
@@ -19,7 +23,8 @@ pub fn ok(lines: u64, out: &mut Bytes) -> Result<(), NoMemory>
 
 /// Adds `unmet L`, for the line of an expectation.
 pub fn unmet(line: u64, out: &mut Bytes) -> Result<(), NoMemory>
-    ensures { OnOk result (out.new ≡ out.old ++ unmet_line line) }
+    ensures ok { OnOk result (out.new ≡ out.old ++ unmet_line line) }
+    ensures err { OnErr result (Begins out.old out.new) }
 {
     out.extend(b"unmet")?;
     push_number(line, out)?;
@@ -28,7 +33,8 @@ pub fn unmet(line: u64, out: &mut Bytes) -> Result<(), NoMemory>
 
 /// Adds `error` and the cause.
 pub fn error(cause: &[u8], out: &mut Bytes) -> Result<(), NoMemory>
-    ensures { OnOk result (out.new ≡ out.old ++ error_line cause.now) }
+    ensures ok { OnOk result (out.new ≡ out.old ++ error_line cause.now) }
+    ensures err { OnErr result (Begins out.old out.new) }
 {
     out.extend(b"error ")?;
     out.extend(cause)?;
@@ -37,7 +43,8 @@ pub fn error(cause: &[u8], out: &mut Bytes) -> Result<(), NoMemory>
 
 /// Adds `error line L why Y`, for a script's first bad line and its rule.
 pub fn bad(line: u64, why: u8, out: &mut Bytes) -> Result<(), NoMemory>
-    ensures { OnOk result (out.new ≡ out.old ++ error_line (bad_cause line why)) }
+    ensures ok { OnOk result (out.new ≡ out.old ++ error_line (bad_cause line why)) }
+    ensures err { OnErr result (Begins out.old out.new) }
 {
     out.extend(b"error line")?;
     push_number(line, out)?;
@@ -55,7 +62,8 @@ pub fn lied(
     got: &[u8],
     out: &mut Bytes,
 ) -> Result<(), NoMemory>
-    ensures { OnOk result (out.new ≡ out.old ++ error_line (lied_cause decls.now.list stream number sent.now got.now)) }
+    ensures ok { OnOk result (out.new ≡ out.old ++ error_line (lied_cause decls.now.list stream number sent.now got.now)) }
+    ensures err { OnErr result (Begins out.old out.new) }
 {
     push_lied(decls.list.as_slice(), stream, number, sent, got, out)?;
     out.push(b'\n')
@@ -70,7 +78,8 @@ fn push_lied(
     got: &[u8],
     out: &mut Bytes,
 ) -> Result<(), NoMemory>
-    ensures { OnOk result (out.new ≡ out.old ++ (codes "error " ++ lied_cause decls.now stream number sent.now got.now)) }
+    ensures ok { OnOk result (out.new ≡ out.old ++ (codes "error " ++ lied_cause decls.now stream number sent.now got.now)) }
+    ensures err { OnErr result (Begins out.old out.new) }
 {
     push_about(b"error lied", decls, Kind::Stream, stream, out)?;
     push_number(number, out)?;
@@ -81,7 +90,8 @@ fn push_lied(
 }
 
 fn push_hex(bytes: &[u8], out: &mut Bytes) -> Result<(), NoMemory>
-    ensures { OnOk result (out.new ≡ out.old ++ flat_map hex_byte bytes.now) }
+    ensures ok { OnOk result (out.new ≡ out.old ++ flat_map hex_byte bytes.now) }
+    ensures err { OnErr result (Begins out.old out.new) }
 {
     for byte in bytes {
         out.extend(&[hex_digit(*byte / 16), hex_digit(*byte % 16)])?;

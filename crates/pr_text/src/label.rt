@@ -1,6 +1,8 @@
 // Labels by number.
-ghost use Rattle.pr_script.specs.Printing.{label_text};
-ghost use Rattle.std.specs.Prelude.{◌≡◌, ◌++◌, ◌∷◌, OnOk};
+#![tactic(auto, using(pr_script::proofs::Beginnings::grown))]
+
+ghost use Rattle.pr_script.specs.Printing.{Begins, label_text};
+ghost use Rattle.std.specs.Prelude.{◌≡◌, ◌++◌, ◌∷◌, OnErr, OnOk};
 
 use pr_script::{Bytes, Decl, Kind, label_at};
 use pr_stamps::NoMemory;
@@ -13,7 +15,8 @@ pub fn push_about(
     number: u32,
     text: &mut Bytes,
 ) -> Result<(), NoMemory>
-    ensures { OnOk result (text.new ≡ text.old ++ (word.now ++ 32 ∷ label_text kind decls.now number)) }
+    ensures ok { OnOk result (text.new ≡ text.old ++ (word.now ++ 32 ∷ label_text kind decls.now number)) }
+    ensures err { OnErr result (Begins text.old text.new) }
 {
     text.extend(word)?;
     push_label(decls, kind, number, text)
@@ -21,7 +24,8 @@ pub fn push_about(
 
 /// Adds a space and the label of this number, in time linear in the declarations.
 pub fn push_label(decls: &[Decl], kind: Kind, number: u32, text: &mut Bytes) -> Result<(), NoMemory>
-    ensures { OnOk result (text.new ≡ text.old ++ 32 ∷ label_text kind decls.now number) }
+    ensures ok { OnOk result (text.new ≡ text.old ++ 32 ∷ label_text kind decls.now number) }
+    ensures err { OnErr result (Begins text.old text.new) }
 {
     text.push(b' ')?;
     text.extend(label_at(decls, kind, number))

@@ -5,6 +5,7 @@ mod answer;
 mod client;
 mod ending;
 mod event;
+mod expectation;
 mod field;
 mod head;
 mod label;
@@ -20,5 +21,6 @@ mod vector;
 
 pub use ending::{bad, error, lied, ok, unmet};
 pub use event::line;
+pub use expectation::met;
 pub use head::heads;
-pub use law::lines_tell_the_history;
+pub use law::{lines_tell_the_history, phases_have_apart_jobs, runs_are_histories};

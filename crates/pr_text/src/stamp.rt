@@ -1,6 +1,9 @@
 // Stamps and numbers.
+#![tactic(auto, using(pr_script::proofs::Beginnings::grown))]
+
+ghost use Rattle.pr_script.specs.Printing.{Begins};
 ghost use Rattle.pr_text.specs.Texts.{prev_text, stamp_text};
-ghost use Rattle.std.specs.Prelude.{◌≡◌, ◌++◌, ◌∷◌, OnOk, decimal};
+ghost use Rattle.std.specs.Prelude.{◌≡◌, ◌++◌, ◌∷◌, OnErr, OnOk, decimal};
 
 use itoa::Buffer;
 use pr_script::{Bytes, Decl, Kind, label_at};
@@ -8,14 +11,16 @@ use pr_stamps::{NoMemory, Stamp};
 
 /// Adds a space and the digits of the number.
 pub fn push_number(number: u64, text: &mut Bytes) -> Result<(), NoMemory>
-    ensures { OnOk result (text.new ≡ text.old ++ 32 ∷ decimal number) }
+    ensures ok { OnOk result (text.new ≡ text.old ++ 32 ∷ decimal number) }
+    ensures err { OnErr result (Begins text.old text.new) }
 {
     text.push(b' ')?;
     push_digits(number, text)
 }
 
 pub fn push_digits(number: u64, text: &mut Bytes) -> Result<(), NoMemory>
-    ensures { OnOk result (text.new ≡ text.old ++ decimal number) }
+    ensures ok { OnOk result (text.new ≡ text.old ++ decimal number) }
+    ensures err { OnErr result (Begins text.old text.new) }
 {
     let mut buffer = Buffer::new();
     text.extend(buffer.format(number).as_bytes())

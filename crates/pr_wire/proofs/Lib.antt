@@ -8,4 +8,5 @@ pub mod ListFields
 pub mod KindFields
 pub mod FrameLemmas
 pub mod FeedLemmas
+pub mod OnlyMessage
 pub mod WriteLemmas

@@ -8,7 +8,7 @@ use Rattle.pr_vectors.specs.Vector.{Between, clock_of}
 use Rattle.pr_wire.specs.declared.format.Format.{Format}
 use Rattle.pr_wire.specs.declared.format.Format.TheVariants.{One, Two}
 use Rattle.pr_wire.specs.Spelling.{eight, gone_text, mark_text, prev_text, stamp_text}
-use Rattle.pr_wire.specs.Messages.{IsPrev}
+use Rattle.pr_inval.specs.Messages.{IsPrev}
 use Rattle.pr_wire.specs.Reading.{◌>>=◌, byte_at, eight_at, given, gone_at, is_before, is_between, is_prev, mark_at, prev_at, stamp_at, stamp_of}
 use Rattle.pr_wire.proofs.Fields.{IsBytes, IsBytes-rest, IsField, Read, bind_some, byte_field, eight_field, given_some, glue, one_byte, some_is}
 

@@ -2,6 +2,7 @@
 use Rattle.std.specs.Prelude.{◌≡◌, ◌≤◌, ◌+◌, ℕ, List, [], ◌∷◌, ◌++◌, length, min}
 use Rattle.pr_inval.specs.declared.msg.Msg.{Msg}
 use Rattle.pr_wire.specs.declared.format.Format.{Format}
+use Rattle.pr_wire.specs.declared.format.Format.TheVariants.{Two}
 use Rattle.pr_wire.specs.declared.next.Next.{Next}
 use Rattle.pr_wire.specs.declared.next.Next.TheVariants.{Message, More, Bad}
 use Rattle.pr_wire.specs.Messages.{HasSpelling}
@@ -36,6 +37,12 @@ abbrev pub HasAnswered : Fed → Fed → Next → Type 0
 HasAnswered a b (Message m) = (f : Format) × HasGiven a b f m
 HasAnswered a b More = (b ≡ a) × IsPartial a.limit a.rest
 HasAnswered a b (Bad at) = (b ≡ a) × (at ≡ a.given) × IsBad a.limit a.rest
+
+-- the feed is one of any frame, and what it holds is just the frame of the message in format 2
+pub record HoldsJust (a : Fed) (m : Msg) : Type 0 where
+  pub spelled : HasSpelling Two m
+  pub limit : a.limit ≡ 18446744073709551615
+  pub frame : a.rest ≡ spelling Two m
 
 -- ---- runs
 

@@ -1,5 +1,6 @@
 // A message's frame at the end of bytes.
-ghost use Rattle.pr_wire.specs.Messages.{IsInWidth, IsMessage};
+ghost use Rattle.pr_inval.specs.Messages.{IsMessage};
+ghost use Rattle.pr_wire.specs.Messages.{IsInWidth};
 ghost use Rattle.pr_wire.specs.Spelling.{spelling};
 ghost use Rattle.pr_wire.specs.declared.format.Format.{Format};
 ghost use Rattle.std.specs.Prelude.{◌≡◌, ◌++◌, OnErr, OnOk};

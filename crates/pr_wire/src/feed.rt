@@ -1,9 +1,12 @@
 // A stream of frames, as it comes.
-ghost use Rattle.pr_wire.specs.Feeding.{HasAnswered, new_feed, pushed};
+ghost use Rattle.pr_inval.specs.declared.msg.Msg.{Msg};
+ghost use Rattle.pr_wire.specs.Feeding.{HasAnswered, HoldsJust, new_feed, pushed};
 ghost use Rattle.std.specs.Prelude.{◌≡◌, ◌≤◌, ◌<◌, ◌^◌, length, drop, IfOk, OnErr, OnOk};
 
 use crate::frame::{Frame, read_frame};
+use crate::law::{messages_are_never_bad, no_frame_begins_another};
 use crate::next::Next;
+use pr_inval::Msg;
 use pr_stamps::NoMemory;
 use std::alloc::Global;
 use std::marker::Model;
@@ -73,6 +76,19 @@ impl Feed {
                 self.given = self.given.saturating_add(len as u64);
                 Ok(Next::Message(msg))
             }
+        }
+    }
+
+    /// The message of which the feed holds just the frame, in time linear in it.
+    pub fn only_message(mut self) -> Result<Msg, NoMemory>
+        requires { (m : Msg) × HoldsJust self m }
+        ensures { (m : Msg) → HoldsJust self m → IfOk result (λ n. n ≡ m) }
+    {
+        messages_are_never_bad();
+        no_frame_begins_another();
+        match self.next()? {
+            Next::Message(msg) => Ok(msg),
+            _ => unreachable!(),
         }
     }
 

@@ -3,7 +3,8 @@ ghost use Rattle.pr_inval.specs.declared.msg.Msg.{Msg};
 ghost use Rattle.pr_wire.specs.declared.format.Format.{Format};
 ghost use Rattle.pr_wire.specs.Feeding.{Event, Fed, Runs, bytes_given, bytes_taken, counted, new_feed};
 ghost use Rattle.pr_wire.specs.Frames.{IsBad, IsFrame, IsPartial};
-ghost use Rattle.pr_wire.specs.Messages.{HasNoDelete, HasSpelling, IsInWidth, IsMessage};
+ghost use Rattle.pr_inval.specs.Messages.{IsMessage};
+ghost use Rattle.pr_wire.specs.Messages.{HasNoDelete, HasSpelling, IsInWidth};
 ghost use Rattle.pr_wire.specs.Spelling.{content, spelling};
 ghost use Rattle.std.specs.Prelude.{◌≡◌, ◌≤◌, ◌<◌, ◌^◌, ◌++◌, ℕ, List, length};
 

@@ -12,6 +12,7 @@ mod pieces;
 mod reading;
 #[cfg(test)]
 mod tests;
+mod through;
 mod width;
 mod writing;
 
@@ -24,3 +25,4 @@ pub use law::{
 };
 pub use next::Next;
 pub use pieces::Pieces;
+pub use through::through_bytes;

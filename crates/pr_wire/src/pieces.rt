@@ -1,5 +1,6 @@
 // A message's frame, piece by piece.
-ghost use Rattle.pr_wire.specs.Messages.{IsInWidth, IsMessage};
+ghost use Rattle.pr_inval.specs.Messages.{IsMessage};
+ghost use Rattle.pr_wire.specs.Messages.{IsInWidth};
 ghost use Rattle.pr_wire.specs.Pieces.{left_text, rest_of};
 ghost use Rattle.pr_wire.specs.Spelling.{content, eight, spelling};
 ghost use Rattle.pr_wire.specs.declared.format.Format.{Format};

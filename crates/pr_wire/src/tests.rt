@@ -1,9 +1,9 @@
-ghost use Rattle.pr_wire.specs.Messages.{IsMessage};
+ghost use Rattle.pr_inval.specs.Messages.{IsMessage};
 ghost use Rattle.std.specs.Prelude.{◌≤◌, length, IfOk};
 
 use crate::{
     Feed, Next, Pieces, encode, feeds_give_what_was_pushed, frames_spell_one_message,
-    messages_are_never_bad, messages_have_one_spelling, no_frame_begins_another,
+    messages_are_never_bad, messages_have_one_spelling, no_frame_begins_another, through_bytes,
 };
 use pr_inval::{Bytes, Kind, Msg};
 use pr_stamps::{MAX, Seq};
@@ -125,6 +125,23 @@ fn bad_with(alloc: Global, frame: &[u8], place: usize, byte: u8) -> Result<Optio
     }
     pushed(&mut feed, bytes.as_slice())?;
     bad_at(&mut feed)
+}
+
+fn encoded_again(alloc: Global, msg: &Msg) -> Result<Bytes, Fail>
+    requires { IsMessage msg.now }
+{
+    let again = through_bytes(alloc, msg).ok().ok_or("no memory")?;
+    encoded(alloc, &again)
+}
+
+#[test]
+fn a_message_goes_through_its_bytes(rt: HostRuntime) -> Result<(), Fail> {
+    let mut feed = Feed::new(rt.alloc(), 1000);
+    pushed(&mut feed, &FRAME_1)?;
+    let msg = next_message(&mut feed)?;
+    let frame = encoded_again(rt.alloc(), &msg)?;
+    assert_eq!(rt; frame.as_slice(), FRAME_1_AGAIN.as_slice());
+    Ok(())
 }
 
 #[test]

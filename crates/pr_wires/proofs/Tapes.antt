@@ -1,5 +1,5 @@
 -- A part is taken off a tape.
-use Rattle.std.proofs.Common.{◌≡◌, ℕ, ◌+◌, ◌-◌, List, ◌++◌, length, take, drop, sym, ap, ◌∙◌, arith}
+use Rattle.std.proofs.Common.{◌≡◌, ℕ, ◌+◌, ◌-◌, List, ◌++◌, take, drop, sym, ap, ◌∙◌, arith}
 use Rattle.std.proofs.lemmas.List.{drop-drop, length-take, take-append-drop, take_all}
 use Rattle.std.proofs.Math.Seq.{take-add}
 

@@ -5,8 +5,8 @@ use std::test::Fail;
 
 // Puts a piece into a wire that holds nothing, and takes it again: whether it is the same.
 fn goes_through<W: Wire>(wire: &mut W, piece: &[u8]) -> bool
-    requires { W.under wire.old + length piece.now ≤ 4096 }
-    ensures { IsTrue result → W.under wire.new ≡ W.under wire.old }
+    requires { (W.state wire.old).under + length piece.now ≤ 4096 }
+    ensures { IsTrue result → (W.state wire.new).under ≡ (W.state wire.old).under }
 {
     let Ok(put) = wire.put(piece) else {
         return false;

@@ -35,19 +35,7 @@ impl TrueWire {
 }
 
 impl Wire for TrueWire {
-    ghost faults = { λ w. 0 };
-
-    ghost ends = { λ w. 0 };
-
-    ghost under = { λ w. length w };
-
-    ghost given = { λ w. None };
-
-    ghost taken = { λ w. None };
-
-    ghost held = { λ w. Some w };
-
-    ghost is_sound = { λ w. true };
+    ghost state = { λ w. record { faults = 0; ends = 0; under = length w; given = None; taken = None; held = Some w; sound = true } };
 
     fn put(&mut self, piece: &[u8]) -> Result<usize, Failed> {
         if self.at > 0 {

@@ -34,13 +34,13 @@ pub trait Wires {
         ensures same { (sound self.new ≡ sound self.old) × (carried self.new ≡ carried self.old) }
         ensures faults { faults self.old ≤ faults self.new }
         ensures failed { OnErr result (HasRisen (faults self.old) (faults self.new)) }
-        ensures sound { AnswersBySound Self.Wire.is_sound result (sound self.old (made self.old + 1)) }
-        ensures unused { IfOk result (λ w. IsUnused (Self.Wire.under w) (Self.Wire.given w) (Self.Wire.taken w) (Self.Wire.held w)) };
+        ensures sound { AnswersBySound Self.Wire.state result (sound self.old (made self.old + 1)) }
+        ensures unused { IfOk result (λ w. IsUnused (Self.Wire.state w)) };
 
     /// Takes back a wire.
     fn close(&mut self, wire: Self::Wire)
         requires { 0 < out self.old }
         ensures out { out self.new + 1 ≡ out self.old }
         ensures same { (made self.new ≡ made self.old) × (sound self.new ≡ sound self.old) × (faults self.new ≡ faults self.old) }
-        ensures carried { Carries (carried self.old) (carried self.new) (Self.Wire.taken wire) };
+        ensures carried { Carries (carried self.old) (carried self.new) (Self.Wire.state wire).taken };
 }

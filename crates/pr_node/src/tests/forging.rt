@@ -1,5 +1,5 @@
 // Messages that nobody sent.
-ghost use Rattle.pr_wire.specs.Messages.{IsKind, IsMessage, IsPrev, IsWrite};
+ghost use Rattle.pr_inval.specs.Messages.{IsKind, IsMessage, IsPrev, IsWrite};
 ghost use Rattle.std.specs.Prelude.{IfSome, IsTrue};
 
 use crate::ranges::{kind_in_range, write_in_range};

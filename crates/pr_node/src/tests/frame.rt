@@ -1,45 +1,45 @@
 // A message on its way.
-ghost use Rattle.pr_wire.specs.Messages.{IsMessage};
-ghost use Rattle.std.specs.Prelude.{IfSome};
+ghost use Rattle.pr_inval.specs.Messages.{IsMessage};
+ghost use Rattle.std.specs.Prelude.{◌≡◌, IfSome};
 
-use pr_inval::{Bytes, Msg};
-use pr_stamps::Seq;
-use pr_wire::{Feed, Next, encode};
+use pr_inval::Msg;
 use std::alloc::Global;
+use std::marker::Model;
 
-// The greatest length of a frame's content.
-const LIMIT: u64 = 1_000_000;
-
-/// A message as it is sent, with its stream and number.
+/// A message that was sent, which is one of the grammar.
 #[derive(Drop)]
 pub struct Frame {
-    pub stream: u32,
-    pub number: u64,
-    bytes: Bytes,
+    msg: Msg,
+}
+
+impl Model for Frame {
+    ghost use Rattle.pr_inval.specs.Messages.{IsMessage};
+    ghost use Rattle.pr_inval.specs.declared.msg.Msg.{Msg};
+
+    ghost Value = { Msg };
+
+    ghost view = { λ f. f.msg };
+
+    ghost invariant = { λ f. IsMessage f.msg };
 }
 
 impl Frame {
     pub fn of(alloc: Global, msg: &Msg) -> Option<Frame>
         requires { IsMessage msg.now }
     {
-        let mut bytes = Seq::new(alloc);
-        encode(msg, &mut bytes).ok()?;
-        Some(Frame {
-            stream: msg.stream,
-            number: msg.number,
-            bytes,
-        })
+        let msg = msg.copy(alloc).ok()?;
+        Some(Frame { msg })
     }
 
-    /// The message that is read from it.
+    /// Whether it is the stream's message of this number.
+    pub fn is(&self, stream: u32, number: u64) -> bool {
+        self.msg.stream == stream && self.msg.number == number
+    }
+
+    /// A copy of the message.
     pub fn message(&self, alloc: Global) -> Option<Msg>
         ensures { IfSome result IsMessage }
     {
-        let mut feed = Feed::new(alloc, LIMIT);
-        feed.push(self.bytes.as_slice()).ok()?;
-        match feed.next().ok()? {
-            Next::Message(msg) => Some(msg),
-            _ => None,
-        }
+        self.msg.copy(alloc).ok()
     }
 }

@@ -1,5 +1,5 @@
 // Nodes, streams between them, and the messages that were sent.
-ghost use Rattle.pr_wire.specs.Messages.{IsMessage};
+ghost use Rattle.pr_inval.specs.Messages.{IsMessage};
 ghost use Rattle.std.specs.Prelude.{IfSome};
 
 use crate::tests::call::Call;
@@ -112,7 +112,7 @@ impl World {
 
     fn frame(&self, stream: u32, number: u64) -> Option<&Frame> {
         for frame in &self.sent {
-            if frame.stream == stream && frame.number == number {
+            if frame.is(stream, number) {
                 return Some(frame);
             }
         }

@@ -2,27 +2,28 @@ use Rattle.std.proofs.Common.{◌≡◌, ◌∙◌, ◌++◌, ap, sym, subst, Li
 use Rattle.std.proofs.lemmas.List.{length-take}
 use Rattle.pr_wire.specs.Pieces.{rest_of}
 use Rattle.std.specs.Result.{IfOk}
+use Rattle.pr_wire.specs.Messages.{HasSpelling}
 use Rattle.pr_wire.specs.Spelling.{spelling}
 use Rattle.pr_wire.specs.declared.format.Format.TheVariants.{Two}
-use Rattle.pr_flow.specs.Moving.{IsLie, Moves, state_of}
+use Rattle.pr_flow.specs.Moving.{IsLie, Moves}
 use Rattle.pr_flow.proofs.Growing.{moves_more}
-use Rattle.pr_flow.proofs.OnTheWay.{count_more, cut_from, cut_here, front_bytes, no_memory, other_bytes, other_here, piece_more, pushed_limit, pushed_rest, refused_here}
+use Rattle.pr_flow.proofs.OnTheWay.{all_in, count_more, cut_from, cut_here, front_bytes, no_memory, other_bytes, other_here, piece_more, pushed_limit, pushed_rest, refused_here}
 use Rattle.pr_flow.proofs.carrying.carry.Goals as goal
 
-pub returns-in_err-decoded-clause-moved : goal.returns-in_err-decoded-clause-moved
-returns-in_err-decoded-clause-moved g c =
+pub returns-in_err-only_message-clause-moved : goal.returns-in_err-only_message-clause-moved
+returns-in_err-only_message-clause-moved g c =
     let w = g.W.Wire in
-    let a = state_of w.faults w.ends w.under w.given w.taken w.held w.is_sound c.args.wire.now in
-    let b = state_of w.faults w.ends w.under w.given w.taken w.held w.is_sound c.loop-pieces.wire in
+    let a = w.state c.args.wire.now in
+    let b = w.state c.loop-pieces.wire in
     let i = c.loop-pieces.invariant in
     no_memory a b c.args.msg.now c.loop-pieces.feed.rest (rest_of c.loop-pieces.pieces) c.from_residual.result c.from_residual.ensures.0 i.all i.moved
 
 pub returns-in_err-push-in-Whole-clause-moved : goal.returns-in_err-push-in-Whole-clause-moved
 returns-in_err-push-in-Whole-clause-moved g c =
     let w = g.W.Wire in
-    let a = state_of w.faults w.ends w.under w.given w.taken w.held w.is_sound c.args.wire.now in
-    let b = state_of w.faults w.ends w.under w.given w.taken w.held w.is_sound c.loop-pieces.wire in
-    let d = state_of w.faults w.ends w.under w.given w.taken w.held w.is_sound c.pass.new.wire in
+    let a = w.state c.args.wire.now in
+    let b = w.state c.loop-pieces.wire in
+    let d = w.state c.pass.new.wire in
     let i = c.loop-pieces.invariant in
     let r = c.from_residual-in_err-push-in-Whole in
     refused_here a b d c.args.msg.now c.loop-pieces.feed.rest (take c.next-len.result c.next-len.new.buf) (rest_of c.loop-pieces.pieces) c.next-len.result c.next-len.ensures.bytes i.all i.moved r.result r.ensures.0 c.in-Whole.ensures.moved.0
@@ -30,9 +31,9 @@ returns-in_err-push-in-Whole-clause-moved g c =
 pub returns-in-Cut-clause-moved : goal.returns-in-Cut-clause-moved
 returns-in-Cut-clause-moved g c =
     let w = g.W.Wire in
-    let a = state_of w.faults w.ends w.under w.given w.taken w.held w.is_sound c.args.wire.now in
-    let b = state_of w.faults w.ends w.under w.given w.taken w.held w.is_sound c.loop-pieces.wire in
-    let d = state_of w.faults w.ends w.under w.given w.taken w.held w.is_sound c.pass.new.wire in
+    let a = w.state c.args.wire.now in
+    let b = w.state c.loop-pieces.wire in
+    let d = w.state c.pass.new.wire in
     let i = c.loop-pieces.invariant in
     let k = c.in-Cut.ensures.moved in (
       cut_from c.in-Cut.cause a b d i.moved.faults i.moved.ends k.0,
@@ -42,9 +43,9 @@ returns-in-Cut-clause-moved g c =
 pub returns-in-Lied-clause-moved : goal.returns-in-Lied-clause-moved
 returns-in-Lied-clause-moved g c =
     let w = g.W.Wire in
-    let a = state_of w.faults w.ends w.under w.given w.taken w.held w.is_sound c.args.wire.now in
-    let b = state_of w.faults w.ends w.under w.given w.taken w.held w.is_sound c.loop-pieces.wire in
-    let d = state_of w.faults w.ends w.under w.given w.taken w.held w.is_sound c.pass.new.wire in
+    let a = w.state c.args.wire.now in
+    let b = w.state c.loop-pieces.wire in
+    let d = w.state c.pass.new.wire in
     let i = c.loop-pieces.invariant in
     let k = c.in-Lied.ensures.moved in
     let n = c.in-Lied.len in
@@ -57,9 +58,9 @@ returns-in-Lied-clause-moved g c =
 pub loop-pieces-preserved : goal.loop-pieces-preserved
 loop-pieces-preserved g c =
     let w = g.W.Wire in
-    let a = state_of w.faults w.ends w.under w.given w.taken w.held w.is_sound c.args.wire.now in
-    let b = state_of w.faults w.ends w.under w.given w.taken w.held w.is_sound c.loop-pieces.wire in
-    let d = state_of w.faults w.ends w.under w.given w.taken w.held w.is_sound c.pass.new.wire in
+    let a = w.state c.args.wire.now in
+    let b = w.state c.loop-pieces.wire in
+    let d = w.state c.pass.new.wire in
     let i = c.loop-pieces.invariant in
     let k = c.in-Whole.ensures.moved in
     let len = c.next-len.result in
@@ -78,3 +79,15 @@ loop-pieces-preserved g c =
       moved = subst (λ (t : List ℕ). Moves a d t t) (sym now) (moves_more a b d front front piece piece i.moved k.0);
       done = count_more c.loop-pieces.done c.saturating_add-done.result len front piece i.done (omega (arith, c.saturating_add-done.ensures)) size ∙ ap (λ (t : List ℕ). min (length t) 18446744073709551615) (sym now);
     }
+
+pub returns-then-len-eq0-clause-moved : goal.returns-then-len-eq0-clause-moved
+returns-then-len-eq0-clause-moved g c =
+    let w = g.W.Wire in
+    let a = w.state c.args.wire.now in
+    let b = w.state c.loop-pieces.wire in
+    let m = c.args.msg.now in
+    let i = c.loop-pieces.invariant in
+    let none : length (rest_of c.loop-pieces.pieces) ≡ 0 = omega (arith, c.next-len.ensures.count, c.if-len-eq0.true, c.next-len.auto.buf) in
+    let whole : c.loop-pieces.feed.rest ≡ spelling Two m = all_in c.loop-pieces.feed.rest (rest_of c.loop-pieces.pieces) m none i.all in
+    let spelled : HasSpelling Two m = record { message = c.requires.message; width = c.new-pieces.ensures.width; format = tt } in
+    (c.in_ok-only_message.ensures m (record { spelled = spelled; limit = i.limit; frame = whole }), subst (λ (t : List ℕ). Moves a b t t) whole i.moved)

@@ -2,7 +2,7 @@ use Rattle.std.proofs.Common.{◌≡◌, ◌++◌, length, min}
 use Rattle.pr_wire.specs.Pieces.{rest_of}
 use Rattle.pr_wire.specs.Spelling.{spelling}
 use Rattle.pr_wire.specs.declared.format.Format.TheVariants.{Two}
-use Rattle.pr_flow.specs.Moving.{Moves, state_of}
+use Rattle.pr_flow.specs.Moving.{Moves}
 use Rattle.pr_flow.proofs.carrying.carry.Given as goal
 
 abbrev pub invariant-loop-pieces : goal.invariant-loop-pieces
@@ -11,7 +11,7 @@ invariant-loop-pieces g l =
     record {
       all : l.feed.rest ++ rest_of l.pieces ≡ spelling Two l.msg;
       limit : l.feed.limit ≡ 18446744073709551615;
-      moved : Moves (state_of w.faults w.ends w.under w.given w.taken w.held w.is_sound l.initial.wire) (state_of w.faults w.ends w.under w.given w.taken w.held w.is_sound l.wire) l.feed.rest l.feed.rest;
+      moved : Moves (w.state l.initial.wire) (w.state l.wire) l.feed.rest l.feed.rest;
       done : l.done ≡ min (length l.feed.rest) 18446744073709551615;
     }
 

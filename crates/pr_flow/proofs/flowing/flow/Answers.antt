@@ -1,6 +1,5 @@
 use Rattle.std.proofs.Common.{◌≤◌, arith, Ok}
 use Rattle.pr_inval.specs.Standing.{means}
-use Rattle.pr_flow.specs.Moving.{state_of}
 use Rattle.pr_flow.proofs.Answering.{is_fault}
 use Rattle.pr_flow.specs.declared.flow_end.FlowEnd.TheVariants as ends
 use Rattle.pr_flow.proofs.Keeping.{flow_keeps}
@@ -20,7 +19,7 @@ returns-in_err-end-clause-flowed g c =
     (record { source = c.args.source.now; destination = c.args.dest.now; session = means c.args.session.now })
     (record { source = l.source; destination = l.dest; session = means l.session })
     (record { source = n.source; destination = n.dest; session = means n.session })
-    (w.given c.args.wire.now) (w.given l.wire) (w.given n.wire) (w.taken c.args.wire.now) (w.taken l.wire) (w.taken n.wire)
+    (w.state c.args.wire.now).given (w.state l.wire).given (w.state n.wire).given (w.state c.args.wire.now).taken (w.state l.wire).taken (w.state n.wire).taken
     fault c.from_residual.result l.invariant.on.stream l.invariant.leads (c.in_err-end.ensures.flowed l.left some)
     (is_fault c.from_residual.result _ fault c.from_residual.ensures (λ f p. p))
 
@@ -36,7 +35,7 @@ returns-in-Some-clause-flowed g c =
     (record { source = c.args.source.now; destination = c.args.dest.now; session = means c.args.session.now })
     (record { source = l.source; destination = l.dest; session = means l.session })
     (record { source = n.source; destination = n.dest; session = means n.session })
-    (w.given c.args.wire.now) (w.given l.wire) (w.given n.wire) (w.taken c.args.wire.now) (w.taken l.wire) (w.taken n.wire)
+    (w.state c.args.wire.now).given (w.state l.wire).given (w.state n.wire).given (w.state c.args.wire.now).taken (w.state l.wire).taken (w.state n.wire).taken
     c.in_ok-end.field-0 c.in-Some.end l.invariant.on.stream l.invariant.leads (c.in_ok-end.ensures.flowed l.left some) c.in-Some.is
 
 pub loop-left-preserved : goal.loop-left-preserved
@@ -48,15 +47,15 @@ loop-left-preserved g c =
     let n = c.turn.new in
     let some : 1 ≤ l.left = omega (arith, c.loop-left-test.true) in
     let none = is_none c.in_ok-end.field-0 c.in_default.not-Some in
-    let x = state_of w.faults w.ends w.under w.given w.taken w.held w.is_sound c.args.wire.now in
-    let y = state_of w.faults w.ends w.under w.given w.taken w.held w.is_sound l.wire in
-    let z = state_of w.faults w.ends w.under w.given w.taken w.held w.is_sound n.wire in
+    let x = w.state c.args.wire.now in
+    let y = w.state l.wire in
+    let z = w.state n.wire in
     record {
       leads = one_more a.made a.act b.made b.act (means c.args.session.now).stream (means l.session).stream c.args.turns l.left
           (record { source = c.args.source.now; destination = c.args.dest.now; session = means c.args.session.now })
           (record { source = l.source; destination = l.dest; session = means l.session })
           (record { source = n.source; destination = n.dest; session = means n.session })
-          (w.given c.args.wire.now) (w.given l.wire) (w.given n.wire) (w.taken c.args.wire.now) (w.taken l.wire) (w.taken n.wire)
+          (w.state c.args.wire.now).given (w.state l.wire).given (w.state n.wire).given (w.state c.args.wire.now).taken (w.state l.wire).taken (w.state n.wire).taken
           c.in_ok-end.field-0 l.invariant.on.stream l.invariant.leads (c.in_ok-end.ensures.flowed l.left some) none;
       on = goes_more x y z (means c.args.session.now) (means l.session) (means n.session) l.invariant.on (goes_on y z (means l.session) (means n.session) c.in_ok-end.field-0 c.in_ok-end.ensures.wire none);
     }
@@ -70,7 +69,7 @@ returns-clause-flowed g c =
     finished a.made a.act b.made b.act (means c.args.session.now).stream c.args.turns l.left
     (record { source = c.args.source.now; destination = c.args.dest.now; session = means c.args.session.now })
     (record { source = l.source; destination = l.dest; session = means l.session })
-    (w.given c.args.wire.now) (w.given l.wire) (w.taken c.args.wire.now) (w.taken l.wire)
+    (w.state c.args.wire.now).given (w.state l.wire).given (w.state c.args.wire.now).taken (w.state l.wire).taken
     (omega (arith, c.loop-left-test.false)) l.invariant.leads
 
 pub returns-in_err-end-clause-session : goal.returns-in_err-end-clause-session
@@ -82,7 +81,7 @@ returns-in_err-end-clause-session g c =
     flow_keeps a.made a.act b.made b.act (means c.args.session.now).stream c.args.turns
     (record { source = c.args.source.now; destination = c.args.dest.now; session = means c.args.session.now })
     (record { source = n.source; destination = n.dest; session = means n.session })
-    (w.given c.args.wire.now) (w.given n.wire) (w.taken c.args.wire.now) (w.taken n.wire) c.from_residual.result (returns-in_err-end-clause-flowed g c)
+    (w.state c.args.wire.now).given (w.state n.wire).given (w.state c.args.wire.now).taken (w.state n.wire).taken c.from_residual.result (returns-in_err-end-clause-flowed g c)
 
 pub returns-in-Some-clause-session : goal.returns-in-Some-clause-session
 returns-in-Some-clause-session g c =
@@ -93,7 +92,7 @@ returns-in-Some-clause-session g c =
     flow_keeps a.made a.act b.made b.act (means c.args.session.now).stream c.args.turns
     (record { source = c.args.source.now; destination = c.args.dest.now; session = means c.args.session.now })
     (record { source = n.source; destination = n.dest; session = means n.session })
-    (w.given c.args.wire.now) (w.given n.wire) (w.taken c.args.wire.now) (w.taken n.wire) (Ok c.in-Some.end) (returns-in-Some-clause-flowed g c)
+    (w.state c.args.wire.now).given (w.state n.wire).given (w.state c.args.wire.now).taken (w.state n.wire).taken (Ok c.in-Some.end) (returns-in-Some-clause-flowed g c)
 
 pub returns-clause-session : goal.returns-clause-session
 returns-clause-session g c =
@@ -104,4 +103,4 @@ returns-clause-session g c =
     flow_keeps a.made a.act b.made b.act (means c.args.session.now).stream c.args.turns
     (record { source = c.args.source.now; destination = c.args.dest.now; session = means c.args.session.now })
     (record { source = n.source; destination = n.dest; session = means n.session })
-    (w.given c.args.wire.now) (w.given n.wire) (w.taken c.args.wire.now) (w.taken n.wire) (Ok ends.Done) (returns-clause-flowed g c)
+    (w.state c.args.wire.now).given (w.state n.wire).given (w.state c.args.wire.now).taken (w.state n.wire).taken (Ok ends.Done) (returns-clause-flowed g c)

@@ -1,7 +1,6 @@
 use Rattle.pr_inval.specs.Standing.{means}
 use Rattle.pr_flow.specs.Ending.{GoesOn}
 use Rattle.pr_flow.specs.Flows.{Leads}
-use Rattle.pr_flow.specs.Moving.{state_of}
 use Rattle.pr_flow.proofs.flowing.flow.Given as goal
 
 abbrev pub invariant-loop-left : goal.invariant-loop-left
@@ -13,8 +12,8 @@ invariant-loop-left g l =
       leads : Leads a.made a.act b.made b.act (means l.initial.session).stream l.turns l.left
           (record { source = l.initial.source; destination = l.initial.dest; session = means l.initial.session })
           (record { source = l.source; destination = l.dest; session = means l.session })
-          (w.given l.initial.wire) (w.given l.wire) (w.taken l.initial.wire) (w.taken l.wire);
-      on : GoesOn (state_of w.faults w.ends w.under w.given w.taken w.held w.is_sound l.initial.wire) (state_of w.faults w.ends w.under w.given w.taken w.held w.is_sound l.wire) (means l.initial.session) (means l.session);
+          (w.state l.initial.wire).given (w.state l.wire).given (w.state l.initial.wire).taken (w.state l.wire).taken;
+      on : GoesOn (w.state l.initial.wire) (w.state l.wire) (means l.initial.session) (means l.session);
     }
 
 abbrev pub decreases-loop-left : goal.decreases-loop-left

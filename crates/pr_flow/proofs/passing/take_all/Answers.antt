@@ -1,7 +1,6 @@
 use Rattle.std.proofs.Common.{◌≤◌, ◌-◌, length, drop, arith}
 use Rattle.std.proofs.lemmas.List.{length-drop, length-take}
 use borrow.Rule.Slice.PartMut.{put_mid}
-use Rattle.pr_flow.specs.Moving.{state_of}
 use Rattle.pr_flow.proofs.Growing.{take_more}
 use Rattle.pr_flow.proofs.Fronts.{filled, filled_front, filled_size, taken_more, taken_other}
 use Rattle.pr_flow.proofs.passing.take_all.Goals as goal
@@ -9,9 +8,9 @@ use Rattle.pr_flow.proofs.passing.take_all.Goals as goal
 pub returns-then-ne-clause-moved : goal.returns-then-ne-clause-moved
 returns-then-ne-clause-moved g c =
     let w = g.W.Wire in
-    let a = state_of w.faults w.ends w.under w.given w.taken w.held w.is_sound c.args.wire.now in
-    let b = state_of w.faults w.ends w.under w.given w.taken w.held w.is_sound c.loop-at.wire in
-    let d = state_of w.faults w.ends w.under w.given w.taken w.held w.is_sound c.take.new.self in
+    let a = w.state c.args.wire.now in
+    let b = w.state c.loop-at.wire in
+    let d = w.state c.take.new.self in
     let i = c.loop-at.invariant in
     let e = c.in-Ok.ensures in
     let at = c.loop-at.at in
@@ -32,9 +31,9 @@ returns-then-ne-clause-moved g c =
 pub loop-at-preserved : goal.loop-at-preserved
 loop-at-preserved g c =
     let w = g.W.Wire in
-    let a = state_of w.faults w.ends w.under w.given w.taken w.held w.is_sound c.args.wire.now in
-    let b = state_of w.faults w.ends w.under w.given w.taken w.held w.is_sound c.loop-at.wire in
-    let d = state_of w.faults w.ends w.under w.given w.taken w.held w.is_sound c.take.new.self in
+    let a = w.state c.args.wire.now in
+    let b = w.state c.loop-at.wire in
+    let d = w.state c.take.new.self in
     let i = c.loop-at.invariant in
     let e = c.in-Ok.ensures in
     let at = c.loop-at.at in

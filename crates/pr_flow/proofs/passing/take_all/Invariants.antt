@@ -1,5 +1,5 @@
 use Rattle.std.proofs.Common.{length, ◌-◌, ◌≡◌, ◌≤◌, [], take}
-use Rattle.pr_flow.specs.Moving.{Moves, state_of}
+use Rattle.pr_flow.specs.Moving.{Moves}
 use Rattle.pr_flow.proofs.passing.take_all.Given as goal
 
 abbrev pub invariant-loop-at : goal.invariant-loop-at
@@ -9,7 +9,7 @@ invariant-loop-at g l =
       within : l.at ≤ length l.piece;
       room : length l.bytes ≡ length l.piece;
       same : take l.at l.bytes ≡ take l.at l.piece;
-      moved : Moves (state_of w.faults w.ends w.under w.given w.taken w.held w.is_sound l.initial.wire) (state_of w.faults w.ends w.under w.given w.taken w.held w.is_sound l.wire) [] (take l.at l.bytes);
+      moved : Moves (w.state l.initial.wire) (w.state l.wire) [] (take l.at l.bytes);
     }
 
 abbrev pub decreases-loop-at : goal.decreases-loop-at

@@ -3,7 +3,7 @@ use Rattle.std.specs.Prelude.{OnOk}
 use Rattle.pr_inval.specs.declared.kind.Kind.{Kind}
 use Rattle.pr_inval.specs.declared.kind.Kind.TheVariants.{Body, Checkpoint}
 use Rattle.pr_inval.specs.declared.row.Row.{Row}
-use Rattle.pr_node.specs.Taking.{HasTaken}
+use Rattle.pr_node.specs.Taking.{HasTaken, LeavesBodies}
 use Rattle.pr_node.proofs.taking.take.Goals as goal
 
 pub returns-in-Precise-clause-taken : goal.returns-in-Precise-clause-taken
@@ -21,3 +21,19 @@ pub returns-in-Body-clause-taken : goal.returns-in-Body-clause-taken
 returns-in-Body-clause-taken c =
     subst (λ (k : Kind). OnOk c.take_body.result (HasTaken c.args.stores.now c.take_body.new.stores k)) (sym c.in-Body.is)
     (subst (λ (bytes : List ℕ). OnOk c.take_body.result (HasTaken c.args.stores.now c.take_body.new.stores (Body c.in-Body.name c.in-Body.stamp bytes))) c.as_slice-in-Body.ensures c.take_body.ensures.taken)
+
+pub returns-in-Precise-clause-bodies : goal.returns-in-Precise-clause-bodies
+returns-in-Precise-clause-bodies c = subst (λ (k : Kind). OnOk c.take_precise.result (LeavesBodies c.args.stores.now.bodies c.take_precise.new.stores.bodies c.args.stores.now.marks k)) (sym c.in-Precise.is) c.take_precise.ensures.bodies
+
+pub returns-in-Imprecise-clause-bodies : goal.returns-in-Imprecise-clause-bodies
+returns-in-Imprecise-clause-bodies c = subst (λ (k : Kind). OnOk c.take_imprecise.result (LeavesBodies c.args.stores.now.bodies c.take_imprecise.new.stores.bodies c.args.stores.now.marks k)) (sym c.in-Imprecise.is) c.take_imprecise.ensures.bodies
+
+pub returns-in-Checkpoint-clause-bodies : goal.returns-in-Checkpoint-clause-bodies
+returns-in-Checkpoint-clause-bodies c =
+    subst (λ (k : Kind). OnOk c.take_checkpoint.result (LeavesBodies c.args.stores.now.bodies c.take_checkpoint.new.stores.bodies c.args.stores.now.marks k)) (sym c.in-Checkpoint.is)
+    (subst (λ (rows : List Row). OnOk c.take_checkpoint.result (LeavesBodies c.args.stores.now.bodies c.take_checkpoint.new.stores.bodies c.args.stores.now.marks (Checkpoint c.in-Checkpoint.to c.in-Checkpoint.target c.in-Checkpoint.floor rows))) c.as_slice.ensures c.take_checkpoint.ensures.bodies)
+
+pub returns-in-Body-clause-bodies : goal.returns-in-Body-clause-bodies
+returns-in-Body-clause-bodies c =
+    subst (λ (k : Kind). OnOk c.take_body.result (LeavesBodies c.args.stores.now.bodies c.take_body.new.stores.bodies c.args.stores.now.marks k)) (sym c.in-Body.is)
+    (subst (λ (bytes : List ℕ). OnOk c.take_body.result (LeavesBodies c.args.stores.now.bodies c.take_body.new.stores.bodies c.args.stores.now.marks (Body c.in-Body.name c.in-Body.stamp bytes))) c.as_slice-in-Body.ensures c.take_body.ensures.bodies)

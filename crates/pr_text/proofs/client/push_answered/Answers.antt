@@ -17,5 +17,5 @@ returns c =
     let answer : OnOk r (t ≡ c.push_name.new.text ++ more 32 (reply ++ codes "at" ∷ vector ∷ [])) =
     subst (λ (k : List ℕ). OnOk r (t ≡ c.push_name.new.text ++ k)) (sym (more_append 32 reply (codes "at" ∷ vector ∷ [])))
     (on_front r t c.push_reply.new.text c.push_name.new.text _ _ c.in_ok-push_reply.ensures at) in
-    on_front r t c.push_about.new.text c.args.text.now _ _ c.in_ok-push_about.ensures
+    on_front r t c.push_about.new.text c.args.text.now _ _ c.in_ok-push_about.ensures.ok
     (on_front r t c.push_name.new.text c.push_about.new.text _ _ c.in_ok-push_name.ensures answer)

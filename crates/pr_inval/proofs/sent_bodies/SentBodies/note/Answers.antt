@@ -8,8 +8,8 @@ use Rattle.pr_inval.specs.declared.sent_body.SentBody as declared
 use Rattle.pr_inval.proofs.Bodies.{body_of, noted}
 use Rattle.pr_inval.proofs.sent_bodies.SentBodies.note.Goals as goal
 
-pub returns : goal.returns
-returns c o t =
+pub returns-clause-noted : goal.returns-clause-noted
+returns-clause-noted c o t =
     let keys = c.self.inside.bodies.keys in
     let HasRoom : Kept SentBody → Type 0 = λ v. 0 < v.room in
     noted c.insert.result keys c.insert.new.self.keys c.of.result (c.insert.ensures.succeeds (subst HasRoom (sym c.self.view_is) c.requires)) c.insert.ensures.keys c.insert.ensures.added o t

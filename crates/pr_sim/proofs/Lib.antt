@@ -1,0 +1,10 @@
+pub mod Quiet
+pub mod Step
+pub mod Running
+pub mod Telling
+pub mod Faults
+pub mod Ending
+pub mod OfClients
+pub mod OfStreams
+pub mod Sendings
+pub mod Receiving

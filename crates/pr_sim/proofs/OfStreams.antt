@@ -1,0 +1,345 @@
+-- What an event of a stream changes.
+use Rattle.std.proofs.Common.{◌≡◌, ◌⊎◌, ℕ, ◌+◌, ◌<◌, ◌≤◌, List, [], ◌∷◌, ◌++◌, Ok, inl, inr, refl, sym, ◌∙◌, ap, subst, max, cond, nat_eq, length, get_or, arith}
+use Rattle.std.specs.Prelude.{true, false, Bool, IsTrue, Some, None, Option, ◌||◌, ◌&&◌, not}
+use Rattle.std.proofs.lemmas.Bool.{cases_eq}
+use Rattle.std.proofs.lemmas.Bool.Decides.{Decides-eqb}
+use Rattle.pr_stamps.specs.Kept.{Kept}
+use Rattle.pr_inval.specs.declared.msg.Msg.{Msg}
+use Rattle.pr_inval.specs.declared.step.Step.{Step}
+use Rattle.pr_inval.specs.declared.step.Step.TheVariants as steps
+use Rattle.pr_inval.specs.declared.kind.Kind.{Kind}
+use Rattle.pr_inval.specs.declared.kind.Kind.TheVariants.{Precise, Imprecise, Checkpoint, Body}
+use Rattle.pr_inval.specs.Standing.{HasDetached, Remembered, SessionMeaning, Standing}
+use Rattle.pr_inval.specs.Standing as session
+use Rattle.pr_node.specs.Calls.{Adds, IsAttachedAt, IsCheckpointSent, IsStep}
+use Rattle.pr_story.specs.Sessions.{HasGoneOn}
+use Rattle.pr_node.specs.Grammar.{IsStepSpelled}
+use Rattle.pr_node.specs.Stored.{Stored, means}
+use Rattle.pr_story.specs.declared.entry.Entry.{Entry}
+use Rattle.pr_story.specs.declared.event.Event.{Event}
+use Rattle.pr_story.specs.declared.event.Event.TheVariants.{Attached, Sent, Idle, Stale}
+use Rattle.pr_story.specs.Clients.{client_vector, is_of_client}
+use Rattle.pr_story.specs.Commands.{Gives, IsCheckpoint, IsNoCheckpoint, ToAttach, ToCheckpoint, ToSend}
+use Rattle.pr_story.specs.History.{Plan, NodeEntry, Sends, journal}
+use Rattle.pr_story.specs.Lawful.{HasCause, IsPlaced, heard_time, last_time}
+use Rattle.pr_story.specs.Laws.{StandsFor}
+use Rattle.pr_story.specs.Scripts.{Detach, Single, attached_after}
+use Rattle.pr_story.specs.Turns.{Attaches, IsAttached, count_after, position_after, sent_after, event_of, is_of_stream, is_timed, is_with_session, stream_time}
+use Rattle.pr_story.proofs.Short.{valid_short}
+use Rattle.pr_wire.specs.Messages.{IsMessage}
+use Rattle.pr_sim.specs.Commands.{GivesIt, IsCheckpointOf, IsStepOf, MakesOne}
+use Rattle.pr_sim.specs.Running.{AreClients, AreNodes, AreRoutes, AreSent, AreSessions, Declared, IsRunning, IsSession, Stands}
+use Rattle.pr_story.specs.Places as story
+use Rattle.pr_sim.specs.Places.{HasNoted, OfStream}
+use Rattle.pr_story.specs.Places.{sent_places}
+use Rattle.pr_sim.specs.declared.engine.Engine.{Engine}
+use Rattle.pr_sim.specs.declared.engine.Route.{Route}
+use Rattle.pr_sim.proofs.OfClients.{not_equal}
+use Rattle.pr_sim.proofs.Running.{attached_put, never, only, runs_more}
+use Rattle.pr_sim.proofs.Quiet.{IsOfNoClient, clients_stay, places_stay, stands_still}
+use Rattle.pr_sim.proofs.Step.{HasMoved, here, length_put, one_step, own_lawful, place_of, put, some_is, there}
+
+-- what is asked of an event of stream s
+pub record IsOfStream (s : ℕ) (event : Event) : Type 0 where
+  pub with : (t : ℕ) → IsTrue (is_with_session event t) → t ≡ s
+  pub others : (t : ℕ) → (t ≡ s → ⊥) → is_of_stream event t ≡ false
+  pub timed : is_timed event s ≡ true
+  pub heard : (sessions : ℕ → Standing) → heard_time sessions event ≡ (sessions s).time
+  pub no_client : IsOfNoClient event
+
+other_stream : (s t : ℕ) → (t ≡ s → ⊥) → nat_eq s t ≡ false
+other_stream s t other = not_equal s t (λ e. other (sym e))
+
+same_stream : (s t : ℕ) → IsTrue (nat_eq s t) → t ≡ s
+same_stream s t is = sym ((Decides-eqb s t).0 is)
+
+itself : (s : ℕ) → nat_eq s s ≡ true
+itself s = (Decides-eqb s s).1 refl
+
+pub attached_is : (s : ℕ) (at : List ℕ) → IsOfStream s (Attached s at)
+attached_is s at = record { with = same_stream s; others = other_stream s; timed = itself s; heard = λ sessions. refl; no_client = λ c. refl }
+
+pub sent_is : (s : ℕ) (msg : Msg) → msg.stream ≡ s → IsOfStream s (Sent msg)
+sent_is s msg is = record {
+  with = λ t on. same_stream msg.stream t on ∙ is;
+  others = λ t other. other_stream msg.stream t (λ e. other (e ∙ is));
+  timed = (Decides-eqb msg.stream s).1 is;
+  heard = λ sessions. ap (λ (t : ℕ). (sessions t).time) is;
+  no_client = λ c. refl;
+}
+
+pub idle_is : (s : ℕ) → IsOfStream s (Idle s)
+idle_is s = record { with = same_stream s; others = other_stream s; timed = itself s; heard = λ sessions. refl; no_client = λ c. refl }
+
+pub stale_is : (s : ℕ) (cut : List ℕ) → IsOfStream s (Stale s cut)
+stale_is s cut = record { with = same_stream s; others = other_stream s; timed = itself s; heard = λ sessions. refl; no_client = λ c. refl }
+
+-- ---- the session that the call was given
+
+pub later : (a b t time : ℕ) (on : Bool) → on ≡ true → time ≡ max a b + 1 → b ≡ t → time ≡ max t (cond on time 0)
+later a b t time true is own same = omega arith
+later a b t time false is own same = absurd (cc)
+
+pub session_of : (plan : Plan) (h : List NodeEntry) (sessions : List (Option Remembered)) (s : ℕ) (x : Remembered) → AreSessions plan h sessions → s < length sessions → get_or sessions s None ≡ Some x → IsSession plan h s x
+session_of plan h sessions s x are lt was =
+    let y = are s lt in
+    subst (λ (z : Remembered). IsSession plan h s z) (some_is y.0 x (get_or sessions s None) y.1 was) y.2
+
+pub goes_on : (plan : Plan) (e : NodeEntry) (h : List NodeEntry) (s : ℕ) (old new : Remembered) (attached : Bool) → IsSession plan h s old → HasGoneOn (session.means old) (session.means new) attached e.entry
+    → IsOfStream s e.entry.event → e.entry.time ≡ max (last_time (journal h e.node)) (stream_time h s) + 1 → (IsTrue attached → IsAttached (e ∷ h) s) → IsSession plan (e ∷ h) s new
+goes_on plan e h s old new attached i on of time is = record {
+  stream = on.stream ∙ i.stream;
+  stands = record {
+    names = on.after.names ∙ i.stands.names;
+    bodies = on.after.bodies ∙ i.stands.bodies;
+    position = on.after.position ∙ ap (λ (t : ℕ). position_after e.entry.event t old.position) i.stream ∙ ap (λ (p : List ℕ). position_after e.entry.event s p) i.stands.position;
+    number = on.after.number ∙ ap (λ (t : ℕ). count_after e.entry.event t old.number) i.stream ∙ ap (λ (k : ℕ). count_after e.entry.event s k) i.stands.number;
+    time = on.after.time ∙ later (last_time (journal h e.node)) (stream_time h s) (stream_time h s) e.entry.time (is_timed e.entry.event s) of.timed time refl;
+    sent = λ o t. on.after.sent o t ∙ ap (λ (k : ℕ). sent_after e.entry.event k o t ((session.standing_of old).sent o t)) i.stream ∙ ap (λ (b : Bool). sent_after e.entry.event s o t b) (i.stands.sent o t);
+  };
+  attached = λ now. is (sym on.is_attached ∙ now);
+}
+
+pub sessions_more : (plan : Plan) (e : NodeEntry) (h : List NodeEntry) (sessions : List (Option Remembered)) (s : ℕ) (new : Remembered) → AreSessions plan h sessions → s < length sessions
+    → ((t : ℕ) → (t ≡ s → ⊥) → is_of_stream e.entry.event t ≡ false) → IsSession plan (e ∷ h) s new → AreSessions plan (e ∷ h) (put sessions s new)
+sessions_more plan e h sessions s new are known others now t lt = by t (let l = length_put sessions s new in omega arith) (cases_eq t s)
+  where
+    by : (t : ℕ) → t < length sessions → (t ≡ s) ⊎ (t ≡ s → ⊥) → (x : Remembered) × (get_or (put sessions s new) t None ≡ Some x) × IsSession plan (e ∷ h) t x
+    by t within (inl same) = subst (λ (i : ℕ). (x : Remembered) × (get_or (put sessions s new) i None ≡ Some x) × IsSession plan (e ∷ h) i x) (sym same) (new, here sessions s new known, now)
+    by t within (inr other) = let x = are t within in (x.0, there sessions s t new other ∙ x.1, stands_still plan e h t x.0 (others t other) x.2)
+
+-- ---- the index
+
+pub index_more : (e : NodeEntry) (h : List NodeEntry) (before now : List (Kept ℕ)) (s place : ℕ) → AreSent h before → s < length before → ((t : ℕ) → (t ≡ s → ⊥) → is_of_stream e.entry.event t ≡ false)
+    → place ≡ length (journal h e.node) → HasNoted before now s (story.sent_after e.entry.event s place) → AreSent (e ∷ h) now
+index_more e h before now s place are known others is noted t d lt = by t (let l : length now ≡ length before = noted.many in omega arith) (cases_eq t s)
+  where
+    by : (t : ℕ) → t < length before → (t ≡ s) ⊎ (t ≡ s → ⊥) → (get_or now t d).items ≡ sent_places (e ∷ h) t
+    by t within (inl same) = subst (λ (i : ℕ). (get_or now i d).items ≡ sent_places (e ∷ h) i) (sym same)
+        (noted.here d ∙ ap (λ (i : ℕ). story.sent_after e.entry.event s i (get_or before s d).items) is ∙ ap (λ (xs : List ℕ). story.sent_after e.entry.event s (length (journal h e.node)) xs) (are s d known))
+    by t within (inr other) = ap (λ (x : Kept ℕ). x.items) (noted.there t d other) ∙ are t d within ∙ sym (places_stay e.entry.event t (length (journal h e.node)) (sent_places h t) (others t other))
+
+-- room changes no places
+pub index_roomy : (h : List NodeEntry) (before now : List (Kept ℕ)) → length now ≡ length before → ((s : ℕ) (d : Kept ℕ) → (get_or now s d).items ≡ (get_or before s d).items) → AreSent h before → AreSent h now
+index_roomy h before now many same are s d lt = same s d ∙ are s d (omega arith)
+
+-- ---- what a step is
+
+-- all that is asked of the event of an attached stream at its source
+pub record IsAtSource (plan : Plan) (h : List NodeEntry) (n s : ℕ) (event : Event) : Type 0 where
+  pub of : IsOfStream s event
+  pub placed : IsPlaced plan h n event
+  pub cause : HasCause h n event
+  pub sends : (msg : Msg) → Sends event msg → IsMessage msg
+
+at_source : (plan : Plan) (h : List NodeEntry) (n s : ℕ) (msg : Msg) → n ≡ (plan.stream s).source → IsAttached h s → msg.stream ≡ s → IsMessage msg → IsAtSource plan h n s (Sent msg)
+at_source plan h n s msg at attached is good = record {
+  of = sent_is s msg is;
+  placed = at ∙ ap (λ (t : ℕ). (plan.stream t).source) (sym is);
+  cause = subst (λ (t : ℕ). IsAttached h t) (sym is) attached;
+  sends = λ m same. subst (λ (y : Msg). IsMessage y) same good;
+}
+
+pub step_at_source : (plan : Plan) (h : List NodeEntry) (n s stream : ℕ) (step : Step) (entry : Entry) → stream ≡ s → n ≡ (plan.stream s).source → IsAttached h s → IsStepSpelled step → IsStep stream step entry
+    → IsAtSource plan h n s entry.event
+step_at_source plan h n s stream (steps.Sent msg) entry same at attached good (event, of, kind) =
+    subst (λ (v : Event). IsAtSource plan h n s v) (sym event) (at_source plan h n s msg at attached (of ∙ same) good)
+step_at_source plan h n s stream steps.Idle entry same at attached good event =
+    subst (λ (v : Event). IsAtSource plan h n s v) (sym (event ∙ ap (λ (t : ℕ). Idle t) same)) (record { of = idle_is s; placed = at; cause = attached; sends = λ m bad. absurd bad })
+step_at_source plan h n s stream (steps.Stale cut) entry same at attached good event =
+    subst (λ (v : Event). IsAtSource plan h n s v) (sym (event ∙ ap (λ (t : ℕ). Stale t cut) same)) (record { of = stale_is s cut; placed = at; cause = attached; sends = λ m bad. absurd bad })
+
+pub checkpoint_at_source : (plan : Plan) (h : List NodeEntry) (n s stream : ℕ) (msg : Msg) (entry : Entry) → stream ≡ s → n ≡ (plan.stream s).source → IsAttached h s → IsMessage msg → IsCheckpointSent stream msg entry
+    → IsAtSource plan h n s entry.event
+checkpoint_at_source plan h n s stream msg entry same at attached good (event, of, kind) =
+    subst (λ (v : Event). IsAtSource plan h n s v) (sym event) (at_source plan h n s msg at attached (of ∙ same) good)
+
+-- the event is that of the step
+pub step_is : (s stream : ℕ) (step : Step) (entry : Entry) → stream ≡ s → IsStepSpelled step → IsStep stream step entry → (entry.event ≡ event_of s step) × IsStepOf s step
+step_is s stream (steps.Sent msg) entry same good (event, of, kind) = (event, (of ∙ same, kind, good))
+step_is s stream steps.Idle entry same good event = (event ∙ ap (λ (t : ℕ). Idle t) same, tt)
+step_is s stream (steps.Stale cut) entry same good event = (event ∙ ap (λ (t : ℕ). Stale t cut) same, tt)
+
+pub checkpoint_is : (s stream : ℕ) (msg : Msg) (entry : Entry) → stream ≡ s → IsMessage msg → IsCheckpointSent stream msg entry → (entry.event ≡ Sent msg) × IsCheckpointOf s msg
+checkpoint_is s stream msg entry same good (event, of, kind) = (event, (of ∙ same, kind, good))
+
+-- the commands that give them
+pub turn_gives : (s n : ℕ) (step : Step) (event : Event) → event ≡ event_of s step → IsStepOf s step → Gives (ToSend s) n event
+turn_gives s n (steps.Sent msg) event is (of, kind, good) = subst (λ (v : Event). Gives (ToSend s) n v) (sym is) (of, kind)
+turn_gives s n steps.Idle event is good = subst (λ (v : Event). Gives (ToSend s) n v) (sym is) refl
+turn_gives s n (steps.Stale cut) event is good = subst (λ (v : Event). Gives (ToSend s) n v) (sym is) refl
+
+pub checkpoint_gives : (s n : ℕ) (msg : Msg) (event : Event) → event ≡ Sent msg → IsCheckpointOf s msg → Gives (ToCheckpoint s) n event
+checkpoint_gives s n msg event is (of, kind, good) = subst (λ (v : Event). Gives (ToCheckpoint s) n v) (sym is) (of, kind)
+
+-- the event of a step notes what the step notes
+pub step_noted : (s stream place : ℕ) (step : Step) (entry : Entry) (before now : List (Kept ℕ)) → stream ≡ s → IsStep stream step entry
+    → ((own : OfStream s step) → HasNoted before now s (story.sent_after (event_of s step) s place)) → HasNoted before now s (story.sent_after entry.event s place)
+step_noted s stream place (steps.Sent msg) entry before now same (event, of, kind) noted = subst (λ (v : Event). HasNoted before now s (story.sent_after v s place)) (sym event) (noted (of ∙ same))
+step_noted s stream place steps.Idle entry before now same event noted = subst (λ (v : Event). HasNoted before now s (story.sent_after v s place)) (sym event) (noted tt)
+step_noted s stream place (steps.Stale cut) entry before now same event noted = subst (λ (v : Event). HasNoted before now s (story.sent_after v s place)) (sym event) (noted tt)
+
+pub noted_of : (s : ℕ) (msg : Msg) (place : ℕ) (before now : List (Kept ℕ)) → msg.stream ≡ s → HasNoted before now s (λ xs. xs ++ place ∷ []) → HasNoted before now s (story.sent_after (Sent msg) s place)
+noted_of s msg place before now same noted = record {
+  many = noted.many;
+  here = λ d. noted.here d ∙ sym (ap (λ (b : Bool). cond b ((get_or before s d).items ++ place ∷ []) (get_or before s d).items) ((Decides-eqb msg.stream s).1 same));
+  there = noted.there;
+}
+
+-- ---- one event of a stream
+
+module _ (d : Declared) (attached_before : ℕ → Bool) (h : List NodeEntry) (e f : Engine) (running : IsRunning d attached_before h e) (n : ℕ) (m x : Stored) (place : ℕ) (moved : HasMoved e f n m x place) (caller : ℕ)
+    (s : ℕ) (old new : Remembered) (known : s < length e.sessions.items) (was : get_or e.sessions.items s None ≡ Some old) where
+  k : Stands d.plan h e
+  k = running.stands
+
+  abbrev pub Grown : (ℕ → Bool) → (NodeEntry → Type 0) → Type 0
+  Grown after R = (made : NodeEntry) × IsRunning d after (made ∷ h) f × R made
+
+  pub stream_ends : (R : NodeEntry → Type 0) (P : Entry → Type 0) (a : Adds (means m) (means x) (λ _. (session.means old).standing) (client_vector h) caller P) (attached : Bool) (after : ℕ → Bool)
+      → f.sessions.items ≡ put e.sessions.items s new → f.routes ≡ e.routes → f.homes ≡ e.homes → f.seen ≡ e.seen
+      → IsOfStream s a.entry.event
+      → HasGoneOn (session.means old) (session.means new) attached a.entry
+      → (IsTrue attached → IsAttached (record { node = n; entry = a.entry } ∷ h) s)
+      → attached ≡ after s → ((t : ℕ) → (t ≡ s → ⊥) → attached_before t ≡ after t)
+      → IsPlaced d.plan h n a.entry.event → HasCause h n a.entry.event → R (record { node = n; entry = a.entry })
+      → ((msg : Msg) → Sends a.entry.event msg → IsMessage msg)
+      → length f.sent.items ≡ length e.sent.items
+      → (place ≡ length (journal h n) → AreSent (record { node = n; entry = a.entry } ∷ h) f.sent.items)
+      → Grown after R
+  stream_ends R P a attached after same_sessions same_routes same_homes same_seen of on is flag others placed cause gives sends many_sent sent =
+      let i : IsSession d.plan h s old = session_of d.plan h e.sessions.items s old k.sessions known was in
+      let made : NodeEntry = record { node = n; entry = a.entry } in
+      let st : ℕ → Standing = λ _. (session.means old).standing in
+      let base = one_step d.plan h e f k n m x place moved st (client_vector h) caller P a
+      (λ t with. subst (λ (j : ℕ). StandsFor d.plan h j (session.means old).standing) (sym (of.with t with)) i.stands) (λ c with. refl) placed cause sends in
+      let own = own_lawful d.plan h e f k n m x place moved st (client_vector h) caller P a in
+      let time : a.entry.time ≡ max (last_time (journal h n)) (stream_time h s) + 1 =
+      own.time ∙ ap (λ (t : ℕ). max (last_time (journal h n)) t + 1) (of.heard st ∙ i.stands.time) in
+      let many : length e.nodes.items ≡ length f.nodes.items = sym (ap (λ (nodes : List (Option Stored)). length nodes) moved.nodes ∙ length_put e.nodes.items n x) in
+      let many_sessions : length f.sessions.items ≡ length e.sessions.items = ap (λ (xs : List (Option Remembered)). length xs) same_sessions ∙ length_put e.sessions.items s new in
+      let stands : Stands d.plan (made ∷ h) f = record {
+        valid = base.valid;
+        grammar = base.grammar;
+        places_are = base.places_are;
+        nodes = base.nodes;
+        sessions = subst (λ (xs : List (Option Remembered)). AreSessions d.plan (made ∷ h) xs) (sym same_sessions)
+            (sessions_more d.plan made h e.sessions.items s new k.sessions known of.others (goes_on d.plan made h s old new attached i on of time is));
+        clients = subst (λ count. AreClients d.plan (made ∷ h) count f.homes.items f.seen.items) many
+            (subst (λ xs. AreClients d.plan (made ∷ h) (length e.nodes.items) xs.items f.seen.items) (sym same_homes)
+            (subst (λ xs. AreClients d.plan (made ∷ h) (length e.nodes.items) e.homes.items xs.items) (sym same_seen)
+            (clients_stay d.plan made h (length e.nodes.items) e.homes.items e.seen.items of.no_client k.clients)));
+        routes = subst (λ count. AreRoutes d.plan count f.routes.items) many (subst (λ xs. AreRoutes d.plan (length e.nodes.items) xs.items) (sym same_routes) k.routes);
+        sent = sent (place_of d.plan h e f k n m x place moved st (client_vector h) caller P a);
+        many = ap (λ xs. length xs.items) same_routes ∙ k.many ∙ sym many_sessions;
+        many_sent = many_sent ∙ k.many_sent ∙ sym many_sessions;
+      } in (
+        made,
+        runs_more d attached_before after h e f made running stands moved.within (never (length e.homes.items) (λ c. is_of_client a.entry.event c) of.no_client)
+        (only (length e.sessions.items) s (λ t. is_of_stream a.entry.event t) known of.others)
+        (sym many) (ap (λ xs. length xs.items) same_homes) many_sessions
+        (λ t y now. attached_put e.sessions.items s new attached_before after known running.attached_are (on.is_attached ∙ flag) others t y (subst (λ (xs : List (Option Remembered)). get_or xs t None ≡ Some y) same_sessions now)),
+        gives,
+      )
+
+  -- the stream was attached
+  pub attach_ends : (at : List ℕ) (a : Adds (means m) (means x) (λ _. (session.means old).standing) (client_vector h) caller (λ entry. IsAttachedAt old.stream at entry × HasGoneOn (session.means old) (session.means new) true entry))
+      → f.sessions.items ≡ put e.sessions.items s new → f.routes ≡ e.routes → f.homes ≡ e.homes → f.seen ≡ e.seen → f.sent ≡ e.sent
+      → n ≡ (d.plan.stream s).destination → MakesOne d (attached_after (Single (ToAttach s)) attached_before) h (GivesIt (ToAttach s)) f (Ok tt)
+  attach_ends at a same_sessions same_routes same_homes same_seen same_sent placed =
+      let i : IsSession d.plan h s old = session_of d.plan h e.sessions.items s old k.sessions known was in
+      let is : Attached s at ≡ a.entry.event = sym (a.is.0 ∙ ap (λ (t : ℕ). Attached t at) i.stream) in
+      stream_ends (GivesIt (ToAttach s) tt) (λ entry. IsAttachedAt old.stream at entry × HasGoneOn (session.means old) (session.means new) true entry) a true
+      (attached_after (Single (ToAttach s)) attached_before) same_sessions same_routes same_homes same_seen
+      (subst (λ (v : Event). IsOfStream s v) is (attached_is s at)) a.is.1 (λ yes. inl (subst (λ (v : Event). Attaches v s) is refl))
+      (sym (ap (λ (b : Bool). b || attached_before s) (itself s))) (λ t other. sym (ap (λ (b : Bool). b || attached_before t) (other_stream s t other)))
+      (subst (λ (v : Event). IsPlaced d.plan h n v) is placed) (subst (λ (v : Event). HasCause h n v) is tt) (subst (λ (v : Event). Gives (ToAttach s) n v) is refl)
+      (subst (λ (v : Event). (msg : Msg) → Sends v msg → IsMessage msg) is (λ msg bad. absurd bad))
+      (ap (λ xs. length xs.items) same_sent)
+      (λ at_place t d lt.
+      ap (λ xs. (get_or xs.items t d).items) same_sent ∙ k.sent t d (let l : length f.sent.items ≡ length e.sent.items = ap (λ xs. length xs.items) same_sent in omega arith)
+      ∙ ap (λ (v : Event). story.sent_after v t (length (journal h n)) (sent_places h t)) is)
+
+  -- the stream's source made a turn or a checkpoint
+  pub source_ends : (R : NodeEntry → Type 0) (Q : Entry → Type 0) (a : Adds (means m) (means x) (λ _. (session.means old).standing) (client_vector h) caller (λ entry. Q entry × HasGoneOn (session.means old) (session.means new) true entry))
+      → f.sessions.items ≡ put e.sessions.items s new → f.routes ≡ e.routes → f.homes ≡ e.homes → f.seen ≡ e.seen
+      → IsTrue old.attached → (IsAttached h s → old.stream ≡ s → Q a.entry → IsAtSource d.plan h n s a.entry.event) → (old.stream ≡ s → Q a.entry → R (record { node = n; entry = a.entry }))
+      → (roomy : List (Kept ℕ)) → length roomy ≡ length e.sent.items → ((t : ℕ) (d : Kept ℕ) → (get_or roomy t d).items ≡ (get_or e.sent.items t d).items)
+      → (old.stream ≡ s → Q a.entry → HasNoted roomy f.sent.items s (story.sent_after a.entry.event s place))
+      → Grown attached_before R
+  source_ends R Q a same_sessions same_routes same_homes same_seen attached what gives roomy many room noted =
+      let i : IsSession d.plan h s old = session_of d.plan h e.sessions.items s old k.sessions known was in
+      let w : IsAtSource d.plan h n s a.entry.event = what (i.attached attached) i.stream a.is.0 in
+      let made : HasNoted roomy f.sent.items s (story.sent_after a.entry.event s place) = noted i.stream a.is.0 in
+      let flag : old.attached ≡ attached_before s = running.attached_are s old was in
+      stream_ends R (λ entry. Q entry × HasGoneOn (session.means old) (session.means new) true entry) a true attached_before same_sessions same_routes same_homes same_seen
+      w.of a.is.1 (λ yes. inr (i.attached attached)) (sym attached ∙ flag) (λ t other. refl) w.placed w.cause (gives i.stream a.is.0) w.sends
+      (made.many ∙ many)
+      (λ at_place. index_more (record { node = n; entry = a.entry }) h roomy f.sent.items s place (index_roomy h e.sent.items roomy many room k.sent)
+      (let l : length e.sent.items ≡ length e.sessions.items = k.many_sent in omega arith) w.of.others at_place made)
+
+-- the ends of a stream
+pub ends_of : (plan : Plan) (count : ℕ) (routes : List Route) (s : ℕ) (r : Route) → AreRoutes plan count routes → s < length routes → ((d : Route) → r ≡ get_or routes s d)
+    → (r.source ≡ (plan.stream s).source) × (r.destination ≡ (plan.stream s).destination) × (r.source < count) × (r.destination < count)
+ends_of plan count routes s r are lt is = (
+  ap (λ (y : Route). y.source) (is r) ∙ are.source s r lt,
+  ap (λ (y : Route). y.destination) (is r) ∙ are.destination s r lt,
+  subst (λ (y : Route). y.source < count) (sym (is r)) (are.from s r lt),
+  subst (λ (y : Route). y.destination < count) (sym (is r)) (are.to s r lt),
+)
+
+-- ---- a stream that is not attached any more
+
+detached : (plan : Plan) (h : List NodeEntry) (s : ℕ) (old new : Remembered) → HasDetached (session.means old) (session.means new) → IsSession plan h s old → IsSession plan h s new
+detached plan h s old new by i = record {
+  stream = by.stream ∙ i.stream;
+  stands = subst (λ (st : Standing). StandsFor plan h s st) (sym by.standing) i.stands;
+  attached = λ on. let off : new.attached ≡ false = by.attached in absurd (cc);
+}
+
+sessions_put : (plan : Plan) (h : List NodeEntry) (sessions : List (Option Remembered)) (s : ℕ) (new : Remembered) → AreSessions plan h sessions → s < length sessions → IsSession plan h s new → AreSessions plan h (put sessions s new)
+sessions_put plan h sessions s new are known now t lt = by (let l = length_put sessions s new in omega arith) (cases_eq t s)
+  where
+    by : t < length sessions → (t ≡ s) ⊎ (t ≡ s → ⊥) → (x : Remembered) × (get_or (put sessions s new) t None ≡ Some x) × IsSession plan h t x
+    by within (inl same) = subst (λ (j : ℕ). (x : Remembered) × (get_or (put sessions s new) j None ≡ Some x) × IsSession plan h j x) (sym same) (new, here sessions s new known, now)
+    by within (inr other) = let x = are t within in (x.0, there sessions s t new other ∙ x.1, x.2)
+
+pub detach_ends : (d : Declared) (attached : ℕ → Bool) (h : List NodeEntry) (e f : Engine) (s : ℕ) (old new : Remembered) → IsRunning d attached h e → s < length e.sessions.items → get_or e.sessions.items s None ≡ Some old
+    → f.sessions.items ≡ put e.sessions.items s new → HasDetached (session.means old) (session.means new)
+    → f.nodes ≡ e.nodes → f.history ≡ e.history → f.homes ≡ e.homes → f.seen ≡ e.seen → f.routes ≡ e.routes → f.sent ≡ e.sent
+    → IsRunning d (attached_after (Detach s) attached) h f
+detach_ends d attached h e f s old new running known was now by same_nodes same_history same_homes same_seen same_routes same_sent =
+    let k : Stands d.plan h e = running.stands in
+    let i : IsSession d.plan h s new = detached d.plan h s old new by (session_of d.plan h e.sessions.items s old k.sessions known was) in
+    let many : length f.sessions.items ≡ length e.sessions.items = ap (λ (xs : List (Option Remembered)). length xs) now ∙ length_put e.sessions.items s new in
+    record {
+      stands = record {
+        valid = k.valid;
+        grammar = k.grammar;
+        places_are = ap (λ xs. xs.items) same_history ∙ k.places_are;
+        nodes = subst (λ xs. AreNodes d.plan h xs.items) (sym same_nodes) k.nodes;
+        sessions = subst (λ (xs : List (Option Remembered)). AreSessions d.plan h xs) (sym now) (sessions_put d.plan h e.sessions.items s new k.sessions known i);
+        clients = subst (λ xs. AreClients d.plan h (length xs.items) f.homes.items f.seen.items) (sym same_nodes)
+            (subst (λ xs. AreClients d.plan h (length e.nodes.items) xs.items f.seen.items) (sym same_homes)
+            (subst (λ xs. AreClients d.plan h (length e.nodes.items) e.homes.items xs.items) (sym same_seen) k.clients));
+        routes = subst (λ xs. AreRoutes d.plan (length xs.items) f.routes.items) (sym same_nodes) (subst (λ xs. AreRoutes d.plan (length e.nodes.items) xs.items) (sym same_routes) k.routes);
+        sent = subst (λ xs. AreSent h xs.items) (sym same_sent) k.sent;
+        many = ap (λ xs. length xs.items) same_routes ∙ k.many ∙ sym many;
+        many_sent = ap (λ xs. length xs.items) same_sent ∙ k.many_sent ∙ sym many;
+      };
+      speaks = running.speaks;
+      nodes = ap (λ xs. length xs.items) same_nodes ∙ running.nodes;
+      clients = ap (λ xs. length xs.items) same_homes ∙ running.clients;
+      streams = many ∙ running.streams;
+      attached_are = λ t x is. attached_put e.sessions.items s new attached (attached_after (Detach s) attached) known running.attached_are
+          (by.attached ∙ sym (ap (λ (b : Bool). not b && attached s) (itself s))) (λ t other. sym (ap (λ (b : Bool). not b && attached t) (other_stream s t other))) t x
+          (subst (λ (xs : List (Option Remembered)). get_or xs t None ≡ Some x) now is);
+    }
+
+-- a session's time is at most the number of entries
+pub session_short : (d : Declared) (attached : ℕ → Bool) (h : List NodeEntry) (e : Engine) (s : ℕ) (x : Remembered) → IsRunning d attached h e → s < length e.sessions.items → get_or e.sessions.items s None ≡ Some x → (session.means x).standing.time ≤ length h
+session_short d attached h e s x k known was =
+    let i : IsSession d.plan h s x = session_of d.plan h e.sessions.items s x k.stands.sessions known was in
+    let t : (session.means x).standing.time ≡ stream_time h s = i.stands.time in
+    let l : stream_time h s ≤ length h = (valid_short d.plan h k.stands.valid).streams s in
+    omega arith

@@ -1,0 +1,52 @@
+use Rattle.std.proofs.Common.{◌<◌, [], ◌∷◌, ◌++◌, refl, sym, ◌∙◌, ap, subst, length}
+use Rattle.std.specs.Prelude.{true}
+use Rattle.std.specs.Vec.{with_item}
+use Rattle.pr_vectors.specs.Vector.{zero_vector}
+use Rattle.pr_node.specs.Stored.{means}
+use Rattle.pr_story.specs.Commands.{ToWrite}
+use Rattle.pr_story.specs.History.{current_vector, journal}
+use Rattle.pr_story.specs.Turns.{standing}
+use Rattle.pr_sim.specs.Commands.{GivesIt}
+use Rattle.pr_sim.proofs.OfClients.{done_is, done_seen}
+use Rattle.pr_sim.proofs.Ending.{client_ends}
+use Rattle.pr_sim.proofs.Faults.{no_memory, not_made, same_journal, stopped_same, stopped_still, this_cause, write_is_worn}
+use Rattle.pr_sim.proofs.Step.{place_len, replaced, within_of}
+use Rattle.pr_sim.proofs.Step.{is_node_of}
+use Rattle.pr_sim.proofs.engine.Engine.delete.Goals as goal
+
+pub returns-in_err-reserve : goal.returns-in_err-reserve
+returns-in_err-reserve c d attached h k =
+    let f = record c.args.self.now { history = c.reserve.new.self } in
+    not_made d attached h (GivesIt (ToWrite c.args.client c.args.name.now [] true)) f _ c.from_residual.result c.from_residual.ensures.1 (no_memory h) (stopped_same d attached h c.args.self.now f k refl c.reserve.ensures.items)
+
+pub take-at-requires : goal.take-at-requires
+take-at-requires c =
+    let k = c.requires.kept.3.stands in
+    let x = k.nodes.each c.number-node.result (subst (λ i. i < length c.args.self.now.nodes.items) (sym c.number-node.ensures) (k.clients.at c.args.client c.requires.client)) in (x.0, x.1)
+
+pub returns-in_err-done : goal.returns-in_err-done
+returns-in_err-done c d attached h k =
+    let f = record c.args.self.now { nodes = c.give.new.slots; history = c.reserve.new.self } in
+    let node = is_node_of d.plan h c.args.self.now.nodes.items c.number-node.result c.take-at.result k.stands.nodes (within_of _ c.number-node.result c.take-at.result c.take-at.ensures.was) c.take-at.ensures.was in
+    not_made d attached h (GivesIt (ToWrite c.args.client c.args.name.now [] true)) f _ c.from_residual-in_err-done.result c.from_residual-in_err-done.ensures.1
+    (λ fault is. this_cause h c.in_err-done.field-0.0 fault (write_is_worn d.plan h k.stands.valid _ (means c.take-at.result) (means c.delete-answer.new.self) node.journal_is c.vector-seen.result c.in_err-done.field-0.0 c.in_err-done.ensures.fault) is)
+    (stopped_still d attached h c.args.self.now f c.number-node.result c.take-at.result c.delete-answer.new.self k c.take-at.ensures.was
+    (replaced _ _ _ c.number-node.result c.delete-answer.new.self c.take-at.ensures.out c.give.ensures) c.reserve.ensures.items
+    (same_journal (means c.take-at.result) (means c.delete-answer.new.self) _ c.in_err-done.field-0.0 c.in_err-done.ensures.fault))
+
+pub returns : goal.returns
+returns c d attached h k =
+    let n = c.number-node.result in
+    let needs = c.vector-seen.result in
+    let f = record c.args.self.now { nodes = c.give.new.slots; history = c.push.new.self; seen = with_item c.args.self.now.seen c.args.client c.seen_then.result } in
+    client_ends d attached h c.args.self.now f k n c.take-at.result c.delete-answer.new.self c.len-place.result
+    (record {
+      within = within_of _ n c.take-at.result c.take-at.ensures.was;
+      was = c.take-at.ensures.was;
+      nodes = replaced _ _ _ n c.delete-answer.new.self c.take-at.ensures.out c.give.ensures;
+      place_is = c.len-place.ensures ∙ place_len c.journal.result.now.items c.take-at.result.journal.items c.journal.ensures;
+      noted = c.push.ensures.items ∙ ap (λ ps. ps ++ (n, c.len-place.result) ∷ []) c.reserve.ensures.items;
+    }) 0
+    (ToWrite c.args.client c.args.name.now [] true) c.args.client c.seen_then.result needs _ refl refl refl refl refl c.requires.client c.number-node.ensures (c.vector-seen.ensures zero_vector) c.in_ok-done.ensures.ok
+    (λ entry is. done_is c.args.client c.args.name.now [] true n c.in_ok-done.done entry is)
+    (λ entry is own follows. c.seen_then.ensures ∙ done_seen (standing d.plan h) d.plan n (journal h n) needs c.vector-now.result c.args.client c.args.name.now [] true c.in_ok-done.done entry is own (c.vector-now.ensures.value (c.in_ok-done.ensures.ok (standing d.plan h)).works ∙ ap (λ j. current_vector j) follows))

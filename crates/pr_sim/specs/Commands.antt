@@ -1,0 +1,96 @@
+-- What the calls of an engine make.
+use Rattle.std.specs.Prelude.{ℕ, List, [], ◌∷◌, ◌++◌, ◌≡◌, ◌≤◌, Bool, Result, Ok, Err, filter, length, reverse}
+use Rattle.pr_inval.specs.declared.node_fault.NodeFault.{NodeFault}
+use Rattle.pr_inval.specs.declared.node_fault.NodeFault.TheVariants.{NoMemory, Worn}
+use Rattle.pr_node.specs.declared.answers.done.Done.{Done}
+use Rattle.pr_node.specs.declared.answers.done.Done.TheVariants as done
+use Rattle.pr_node.specs.declared.answers.seen.Seen.{Seen}
+use Rattle.pr_node.specs.declared.answers.seen.Seen.TheVariants as seen
+use Rattle.pr_inval.specs.declared.msg.Msg.{Msg}
+use Rattle.pr_inval.specs.declared.step.Step.{Step}
+use Rattle.pr_inval.specs.declared.step.Step.TheVariants as steps
+use Rattle.pr_inval.specs.declared.taken.Taken.{Taken}
+use Rattle.pr_node.specs.Calls.{IsTaken}
+use Rattle.pr_story.specs.Commands.{Command, Gives, IsCheckpoint, IsNoCheckpoint}
+use Rattle.pr_story.specs.declared.event.Event.TheVariants.{Sent}
+use Rattle.pr_story.specs.Turns.{event_of}
+use Rattle.pr_wire.specs.Messages.{IsMessage}
+use Rattle.pr_story.specs.History.{NodeEntry}
+use Rattle.pr_story.specs.Scripts.{JobAfterJob, Line, LineBegins, LineGives, Single, attached_after}
+use Rattle.pr_sim.specs.Running.{Declared, IsRunning, Tells, below}
+use Rattle.pr_sim.specs.declared.engine.Engine.{Engine}
+
+-- P holds of each history that the engine has run, of what is declared and of which streams are attached
+abbrev pub ForEachRun : Engine → (Declared → (ℕ → Bool) → List NodeEntry → Type 0) → Type 0
+ForEachRun e P = (d : Declared) (attached : ℕ → Bool) (h : List NodeEntry) → IsRunning d attached h e → P d attached h
+
+-- a node is worn only behind as many entries as the greatest time
+abbrev pub IsCause : List NodeEntry → NodeFault → Type 0
+IsCause h NoMemory = Unit {0}
+IsCause h (Worn at) = (at ≡ 4611686018427387903) × (4611686018427387903 ≤ length h)
+
+-- ---- one entry
+
+-- one entry was made, of which P holds, and these streams are attached then; or none, for this cause
+abbrev pub MakesOne : {X : Type 0} → Declared → (ℕ → Bool) → List NodeEntry → (X → NodeEntry → Type 0) → Engine → Result X NodeFault → Type 0
+MakesOne d after h P e (Ok x) = (made : NodeEntry) × IsRunning d after (made ∷ h) e × P x made
+MakesOne d after h P e (Err fault) = Tells d h e × IsCause h fault
+
+-- the entry is one that the command may give
+abbrev pub GivesIt : Command → Unit {0} → NodeEntry → Type 0
+GivesIt command done made = Gives command made.node made.entry.event
+
+abbrev pub GivesOne : Command → Declared → (ℕ → Bool) → List NodeEntry → Engine → Result (Unit {0}) NodeFault → Type 0
+GivesOne command d attached h e r = MakesOne d (attached_after (Single command) attached) h (GivesIt command) e r
+
+-- ---- a stream at its source
+
+-- a message of the grammar that a turn of the stream sends; or none
+abbrev pub IsStepOf : ℕ → Step → Type 0
+IsStepOf s (steps.Sent msg) = (msg.stream ≡ s) × IsNoCheckpoint msg.kind × IsMessage msg
+IsStepOf s _ = Unit {0}
+
+-- a checkpoint of the stream
+abbrev pub IsCheckpointOf : ℕ → Msg → Type 0
+IsCheckpointOf s msg = (msg.stream ≡ s) × IsCheckpoint msg.kind × IsMessage msg
+
+-- the entry is that of the stream's turn
+abbrev pub IsTurnMade : ℕ → Step → NodeEntry → Type 0
+IsTurnMade s step made = (made.entry.event ≡ event_of s step) × IsStepOf s step
+
+-- it is that of its checkpoint
+abbrev pub IsCheckpointMade : ℕ → Msg → NodeEntry → Type 0
+IsCheckpointMade s msg made = (made.entry.event ≡ Sent msg) × IsCheckpointOf s msg
+
+-- it is that of a message that was taken at its destination
+abbrev pub IsTakingMade : Msg → Taken → NodeEntry → Type 0
+IsTakingMade msg answer made = IsTaken msg answer made.entry
+
+-- ---- many entries
+
+-- the history grew by entries of which P holds, the oldest first, and these streams are attached then; or by entries
+-- that begin so, for this cause
+abbrev pub Grows : {X : Type 0} → (X → List NodeEntry → Type 0) → (List NodeEntry → Type 0) → Declared → (ℕ → Bool) → List NodeEntry → Engine → Result X NodeFault → Type 0
+Grows P Begins d after h e (Ok x) = (new : List NodeEntry) × IsRunning d after (new ++ h) e × P x (reverse new)
+Grows P Begins d after h e (Err fault) = (new : List NodeEntry) × Tells d (new ++ h) e × Begins (reverse new) × IsCause (new ++ h) fault
+
+-- the streams that are attached, in order of declaration
+abbrev pub attached_of : Declared → (ℕ → Bool) → List ℕ
+attached_of d attached = filter attached (below d.counts.streams)
+
+-- it grew by what the line gives, or by a beginning of it
+abbrev pub Ends : Line → Declared → (ℕ → Bool) → List NodeEntry → Engine → Result (Unit {0}) NodeFault → Type 0
+Ends line d attached h e r =
+    Grows (λ done es. LineGives JobAfterJob (attached_of d attached) line es) (λ es. LineBegins JobAfterJob (attached_of d attached) line es)
+    d (attached_after line attached) h e r
+
+-- ---- clients
+
+-- what a client has seen after a write, or a read, at a node that then has this vector
+abbrev pub seen_after_done : Done → List ℕ → List ℕ → List ℕ
+seen_after_done (done.Stamp stamp) before now = now
+seen_after_done (done.Behind has) before now = before
+
+abbrev pub seen_after_read : Seen → List ℕ → List ℕ → List ℕ
+seen_after_read (seen.Reply reply) before now = now
+seen_after_read (seen.Behind has) before now = before

@@ -1,0 +1,14 @@
+//! The engine: all nodes and streams of a script in one thread, and the history of what they did.
+#![tactic(auto)]
+
+mod clients;
+mod delivering;
+mod engine;
+mod messages;
+mod nodes;
+mod slots;
+mod streams;
+#[cfg(test)]
+mod tests;
+
+pub use engine::Engine;

@@ -1,0 +1,53 @@
+// Messages that were sent.
+ghost use Rattle.pr_inval.specs.declared.msg.Msg.{Msg};
+ghost use Rattle.pr_sim.specs.Messages.{IsPlace, IsSentAt};
+ghost use Rattle.pr_stamps.specs.Kept.{Kept};
+ghost use Rattle.pr_story.specs.Places.{SendsAt};
+ghost use Rattle.pr_wire.specs.Messages.{IsMessage};
+ghost use Rattle.std.specs.Prelude.{◌≡◌, ◌<◌, ℕ, IfOk, length, slice_index_or};
+
+use crate::engine::node_at;
+use pr_inval::Msg;
+use pr_node::Node;
+use pr_stamps::{NoMemory, Roomy};
+use pr_story::{Entry, Event};
+use pr_wire::through_bytes;
+use std::alloc::Global;
+
+// The place of the stream's message of this number, if it was sent.
+pub fn place_of(sent: &Vec<Roomy<usize>>, stream: u32, number: u64) -> Option<usize>
+    requires { stream < length sent.now.items }
+    ensures { (d : Kept ℕ) → IsPlace (slice_index_or sent.now.items stream d).items number result }
+{
+    let places = sent[stream as usize].as_slice();
+    if number == 0 || number > places.len() as u64 {
+        return None;
+    }
+    Some(places[(number - 1) as usize])
+}
+
+// The message that stands there, through its bytes.
+pub fn again(
+    alloc: Global,
+    nodes: &Vec<Option<Node>>,
+    node: u32,
+    place: usize,
+) -> Result<Msg, NoMemory>
+    requires { (msg : Msg) × IsSentAt nodes.now.items node place msg × IsMessage msg }
+    ensures { (msg : Msg) → IsSentAt nodes.now.items node place msg → IfOk result (λ m. m ≡ msg) }
+{
+    through_bytes(
+        alloc,
+        sent_at(node_at(nodes, node).journal().entries(), place),
+    )
+}
+
+fn sent_at(entries: &[Entry], place: usize) -> &Msg
+    requires { (msg : Msg) × SendsAt entries.now place msg }
+    ensures { (msg : Msg) → SendsAt entries.now place msg → result.now ≡ msg }
+{
+    match &entries[place].event {
+        Event::Sent { msg } => msg,
+        _ => unreachable!(),
+    }
+}

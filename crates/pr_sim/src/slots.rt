@@ -1,0 +1,83 @@
+// Values that are taken out of a list and given back.
+ghost use Rattle.pr_sim.specs.declared.engine.Route.{Route};
+ghost use Rattle.pr_stamps.specs.Kept.{Kept};
+ghost use Rattle.pr_story.specs.Turns.{event_of};
+ghost use Rattle.pr_sim.specs.Places.{HasNoted, OfStream};
+ghost use Rattle.pr_story.specs.Places.{sent_after};
+ghost use Rattle.std.specs.Prelude.{◌≡◌, ◌<◌, ◌++◌, [], ◌∷◌, ℕ, List, None, OnOk, Some, length, slice_index_or, slice_set};
+
+use crate::engine::Route;
+use pr_inval::Step;
+use pr_stamps::{NoMemory, Roomy};
+use pr_vectors::Vector;
+
+pub fn number(numbers: &Vec<u32>, at: u32) -> u32
+    requires { at < length numbers.now.items }
+    ensures { result ≡ slice_index_or numbers.now.items at 0 }
+{
+    numbers[at as usize]
+}
+
+pub fn vector(vectors: &Vec<Vector>, at: u32) -> Vector
+    requires { at < length vectors.now.items }
+    ensures { (d : List ℕ) → result ≡ slice_index_or vectors.now.items at d }
+{
+    vectors[at as usize]
+}
+
+pub fn route(routes: &Vec<Route>, at: u32) -> Route
+    requires { at < length routes.now.items }
+    ensures { (d : Route) → result ≡ slice_index_or routes.now.items at d }
+{
+    routes[at as usize]
+}
+
+// Makes room to note a place of a stream's message.
+pub fn room_for(sent: &mut Vec<Roomy<usize>>, stream: u32) -> Result<(), NoMemory>
+    requires { stream < length sent.old.items }
+    ensures room { OnOk result ((d : Kept ℕ) → 0 < (slice_index_or sent.new.items stream d).room) }
+    ensures many { length sent.new.items ≡ length sent.old.items }
+    ensures items { (s : ℕ) (d : Kept ℕ) → (slice_index_or sent.new.items s d).items ≡ (slice_index_or sent.old.items s d).items }
+{
+    sent[stream as usize].reserve(1)
+}
+
+// Notes the place of a stream's message, for which there is room.
+pub fn note(sent: &mut Vec<Roomy<usize>>, stream: u32, place: usize)
+    requires known { stream < length sent.old.items }
+    requires room { (d : Kept ℕ) → 0 < (slice_index_or sent.old.items stream d).room }
+    ensures { HasNoted sent.old.items sent.new.items stream (λ before. before ++ place ∷ []) }
+{
+    sent[stream as usize].push(place);
+}
+
+// Notes the place of the message of a step, if it sends one.
+pub fn note_step(sent: &mut Vec<Roomy<usize>>, stream: u32, step: &Step, place: usize)
+    requires known { stream < length sent.old.items }
+    requires room { (d : Kept ℕ) → 0 < (slice_index_or sent.old.items stream d).room }
+    ensures { (own : OfStream stream step.now) → HasNoted sent.old.items sent.new.items stream (sent_after (event_of stream step.now) stream place) }
+{
+    if let Step::Sent(_) = step {
+        note(sent, stream, place);
+    }
+}
+
+// Takes the value that stands there.
+pub fn take<T>(slots: &mut Vec<Option<T>>, at: u32) -> T
+    requires { (x : T) × (slice_index_or slots.old.items at None ≡ Some x) }
+    ensures was { slice_index_or slots.old.items at None ≡ Some result }
+    ensures out { slots.new.items ≡ slice_set slots.old.items at None }
+{
+    match slots[at as usize].take() {
+        Some(value) => value,
+        None => unreachable!(),
+    }
+}
+
+// Puts a value there.
+pub fn give<T: Drop>(slots: &mut Vec<Option<T>>, at: u32, value: T)
+    requires { at < length slots.old.items }
+    ensures { slots.new.items ≡ slice_set slots.old.items at (Some value) }
+{
+    slots[at as usize] = Some(value);
+}

@@ -1,0 +1,108 @@
+// Commands on one stream.
+ghost use Rattle.pr_sim.specs.Commands.{ForEachRun, GivesOne, IsCheckpointMade, IsTurnMade, MakesOne};
+ghost use Rattle.pr_sim.specs.Running.{HasAttached, IsKept, IsRunning};
+ghost use Rattle.pr_story.specs.Commands.{ToAttach, ToCheckpoint, ToSend};
+ghost use Rattle.pr_story.specs.Scripts.{Detach, attached_after};
+ghost use Rattle.std.specs.Prelude.{◌<◌, length};
+
+use crate::engine::{CALLER, Engine};
+use crate::slots::{give, note, note_step, room_for, route, take};
+use pr_inval::{Msg, NodeFault, Step};
+
+impl Engine {
+    /// Attaches a stream at its destination.
+    pub fn attach(&mut self, stream: u32) -> Result<(), NodeFault>
+        requires kept { IsKept self.old }
+        requires stream { stream < length self.old.sessions.items }
+        ensures { ForEachRun self.old (λ d attached h. GivesOne (ToAttach stream) d attached h self.new result) }
+    {
+        let node = route(&self.routes, stream).destination;
+        self.history.reserve(1)?;
+        let mut at = take(&mut self.nodes, node);
+        let mut session = take(&mut self.sessions, stream);
+        let place = at.journal().len();
+        let answer = at.attach(CALLER, &mut session);
+        give(&mut self.sessions, stream, session);
+        give(&mut self.nodes, node, at);
+        let _ = answer?;
+        self.history.push((node, place));
+        Ok(())
+    }
+
+    /// Makes a stream not attached, which gives no event.
+    pub fn detach(&mut self, stream: u32)
+        requires kept { IsKept self.old }
+        requires stream { stream < length self.old.sessions.items }
+        ensures { ForEachRun self.old (λ d attached h. IsRunning d (attached_after (Detach stream) attached) h self.new) }
+    {
+        let mut session = take(&mut self.sessions, stream);
+        session.detach();
+        give(&mut self.sessions, stream, session);
+    }
+
+    /// Makes a turn of an attached stream, at its source.
+    pub fn turn(&mut self, stream: u32) -> Result<Step, NodeFault>
+        requires kept { IsKept self.old }
+        requires stream { stream < length self.old.sessions.items }
+        requires attached { HasAttached self.old stream }
+        ensures { ForEachRun self.old (λ d attached h. MakesOne d attached h (IsTurnMade stream) self.new result) }
+    {
+        let node = route(&self.routes, stream).source;
+        self.history.reserve(1)?;
+        room_for(&mut self.sent, stream)?;
+        let mut at = take(&mut self.nodes, node);
+        let mut session = take(&mut self.sessions, stream);
+        let place = at.journal().len();
+        let answer = at.turn(CALLER, &mut session);
+        give(&mut self.sessions, stream, session);
+        give(&mut self.nodes, node, at);
+        let step = answer?;
+        self.history.push((node, place));
+        note_step(&mut self.sent, stream, &step, place);
+        Ok(step)
+    }
+
+    /// Makes a turn of an attached stream, whose message may then be delivered by its number.
+    pub fn send(&mut self, stream: u32) -> Result<(), NodeFault>
+        requires kept { IsKept self.old }
+        requires stream { stream < length self.old.sessions.items }
+        requires attached { HasAttached self.old stream }
+        ensures { ForEachRun self.old (λ d attached h. GivesOne (ToSend stream) d attached h self.new result) }
+    {
+        let _ = self.turn(stream)?;
+        Ok(())
+    }
+
+    /// Makes a checkpoint of an attached stream, at its source.
+    pub fn snapshot(&mut self, stream: u32) -> Result<Msg, NodeFault>
+        requires kept { IsKept self.old }
+        requires stream { stream < length self.old.sessions.items }
+        requires attached { HasAttached self.old stream }
+        ensures { ForEachRun self.old (λ d attached h. MakesOne d attached h (IsCheckpointMade stream) self.new result) }
+    {
+        let node = route(&self.routes, stream).source;
+        self.history.reserve(1)?;
+        room_for(&mut self.sent, stream)?;
+        let mut at = take(&mut self.nodes, node);
+        let mut session = take(&mut self.sessions, stream);
+        let place = at.journal().len();
+        let answer = at.checkpoint(CALLER, &mut session);
+        give(&mut self.sessions, stream, session);
+        give(&mut self.nodes, node, at);
+        let msg = answer?;
+        self.history.push((node, place));
+        note(&mut self.sent, stream, place);
+        Ok(msg)
+    }
+
+    /// Makes a checkpoint of an attached stream, which may then be delivered by its number.
+    pub fn checkpoint(&mut self, stream: u32) -> Result<(), NodeFault>
+        requires kept { IsKept self.old }
+        requires stream { stream < length self.old.sessions.items }
+        requires attached { HasAttached self.old stream }
+        ensures { ForEachRun self.old (λ d attached h. GivesOne (ToCheckpoint stream) d attached h self.new result) }
+    {
+        let _ = self.snapshot(stream)?;
+        Ok(())
+    }
+}
