@@ -1,6 +1,7 @@
 ghost use Rattle.std.specs.Prelude.{◌<◌};
 
 mod examples;
+mod jobs;
 mod long;
 
 use crate::{Bytes, Reader, Script, ScriptFault, print, read};

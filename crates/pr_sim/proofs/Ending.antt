@@ -77,8 +77,8 @@ module _ (d : Declared) (attached : ℕ → Bool) (h : List NodeEntry) (e f : En
       } in (
         new,
         runs_more d attached attached h e f new running stands moved.within known (never (length e.sessions.items) (λ s. is_of_stream a.entry.event s) no_stream)
-        (sym many_nodes) homes (ap (λ xs. length xs.items) same_sessions)
-        (λ s y is. running.attached_are s y (subst (λ xs. get_or xs.items s None ≡ Some y) same_sessions is)),
+            (sym many_nodes) homes (ap (λ xs. length xs.items) same_sessions)
+            (λ s y is. running.attached_are s y (subst (λ xs. get_or xs.items s None ≡ Some y) same_sessions is)),
         gives,
       )
 

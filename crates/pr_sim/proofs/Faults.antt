@@ -130,4 +130,3 @@ stopped_still d attached h e f n m x k was now noted same = record {
   speaks = k.speaks;
   nodes = ap (λ (xs : List (Option Stored)). length xs) now ∙ length_put e.nodes.items n x ∙ k.nodes;
 }
-

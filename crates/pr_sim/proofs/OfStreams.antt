@@ -236,9 +236,9 @@ module _ (d : Declared) (attached_before : ℕ → Bool) (h : List NodeEntry) (e
       } in (
         made,
         runs_more d attached_before after h e f made running stands moved.within (never (length e.homes.items) (λ c. is_of_client a.entry.event c) of.no_client)
-        (only (length e.sessions.items) s (λ t. is_of_stream a.entry.event t) known of.others)
-        (sym many) (ap (λ xs. length xs.items) same_homes) many_sessions
-        (λ t y now. attached_put e.sessions.items s new attached_before after known running.attached_are (on.is_attached ∙ flag) others t y (subst (λ (xs : List (Option Remembered)). get_or xs t None ≡ Some y) same_sessions now)),
+            (only (length e.sessions.items) s (λ t. is_of_stream a.entry.event t) known of.others)
+            (sym many) (ap (λ xs. length xs.items) same_homes) many_sessions
+            (λ t y now. attached_put e.sessions.items s new attached_before after known running.attached_are (on.is_attached ∙ flag) others t y (subst (λ (xs : List (Option Remembered)). get_or xs t None ≡ Some y) same_sessions now)),
         gives,
       )
 

@@ -189,7 +189,7 @@ module _ (d : Declared) (attached : ℕ → Bool) (h : List NodeEntry) (e f : En
       } in (
         new,
         runs_more d attached attached h e f new running stands moved.within (never (length e.homes.items) (λ c. is_of_client a.entry.event c) r.no_client) streams
-        (sym many) (ap (λ xs. length xs.items) same_homes) many_sessions flags,
+            (sym many) (ap (λ xs. length xs.items) same_homes) many_sessions flags,
         gives,
       )
 
@@ -248,4 +248,3 @@ pub at_node : (plan : Plan) (h : List NodeEntry) (e : Engine) (s n number p : �
 at_node plan h e s n number p k source within x =
     let y = k.nodes.each n within in
     (y.0, y.1, subst (λ (j : List Entry). SendsAt (reverse j) p x.msg) (ap (λ (i : ℕ). journal h i) (sym source) ∙ sym y.2.journal_is) x.at)
-

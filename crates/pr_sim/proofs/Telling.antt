@@ -69,16 +69,16 @@ stands_at (x ∷ t) i e p lt = by (cases_lt i (length t)) (λ old. stands_at t i
     by : (i < length t) ⊎ (length t ≤ i) → (i < length t → StandsAt t (get_or (reverse t) i e) (get_or (places_of t) i p)) → StandsAt (x ∷ t) (get_or (reverse (x ∷ t)) i e) (get_or (places_of (x ∷ t)) i p)
     by (inl old) before =
         let a : get_or (reverse (x ∷ t)) i e ≡ get_or (reverse t) i e =
-            ap (λ (xs : List NodeEntry). get_or xs i e) (reverse_more x t) ∙ get_or_append_left (reverse t) (x ∷ []) e i (let l = length-reverse t in omega arith) in
+        ap (λ (xs : List NodeEntry). get_or xs i e) (reverse_more x t) ∙ get_or_append_left (reverse t) (x ∷ []) e i (let l = length-reverse t in omega arith) in
         let b : get_or (places_of (x ∷ t)) i p ≡ get_or (places_of t) i p = get_or_append_left (places_of t) ((x.node, length (journal t x.node)) ∷ []) p i (let l = many_places t in omega arith) in
         subst (λ (y : NodeEntry). StandsAt (x ∷ t) y (get_or (places_of (x ∷ t)) i p)) (sym a)
         (subst (λ (y : ℕ × ℕ). StandsAt (x ∷ t) (get_or (reverse t) i e) y) (sym b) (more x t (get_or (reverse t) i e) (get_or (places_of t) i p) (before old)))
     by (inr new) before =
         let n : i ≡ length t = let s : length (x ∷ t) ≡ length t + 1 = omega arith in omega arith in
         let a : get_or (reverse (x ∷ t)) i e ≡ x =
-            ap (λ (xs : List NodeEntry). get_or xs i e) (reverse_more x t) ∙ get_or_push (reverse t) x e i (length-reverse t ∙ sym n) in
+        ap (λ (xs : List NodeEntry). get_or xs i e) (reverse_more x t) ∙ get_or_push (reverse t) x e i (length-reverse t ∙ sym n) in
         let b : get_or (places_of (x ∷ t)) i p ≡ (x.node, length (journal t x.node)) =
-            get_or_push (places_of t) (x.node, length (journal t x.node)) p i (many_places t ∙ sym n) in
+        get_or_push (places_of t) (x.node, length (journal t x.node)) p i (many_places t ∙ sym n) in
         subst (λ (y : NodeEntry). StandsAt (x ∷ t) y (get_or (places_of (x ∷ t)) i p)) (sym a)
         (subst (λ (y : ℕ × ℕ). StandsAt (x ∷ t) x y) (sym b) (last x t))
 
@@ -94,7 +94,7 @@ declared_at k (e ∷ h) are i x lt = by (cases_lt i (length h)) (λ old. declare
     by : (i < length h) ⊎ (length h ≤ i) → (i < length h → (get_or (reverse h) i x).node < k.nodes) → (get_or (reverse (e ∷ h)) i x).node < k.nodes
     by (inl old) before =
         let a : get_or (reverse (e ∷ h)) i x ≡ get_or (reverse h) i x =
-            ap (λ (xs : List NodeEntry). get_or xs i x) (reverse_more e h) ∙ get_or_append_left (reverse h) (e ∷ []) x i (let l = length-reverse h in omega arith) in
+        ap (λ (xs : List NodeEntry). get_or xs i x) (reverse_more e h) ∙ get_or_append_left (reverse h) (e ∷ []) x i (let l = length-reverse h in omega arith) in
         subst (λ (y : NodeEntry). y.node < k.nodes) (sym a) (before old)
     by (inr new) before =
         let n : i ≡ length h = let s : length (e ∷ h) ≡ length h + 1 = omega arith in omega arith in

@@ -1,7 +1,11 @@
 -- What the calls of an engine make.
 use Rattle.std.specs.Prelude.{ℕ, List, [], ◌∷◌, ◌++◌, ◌≡◌, ◌≤◌, Bool, Result, Ok, Err, filter, length, reverse}
 use Rattle.pr_inval.specs.declared.node_fault.NodeFault.{NodeFault}
-use Rattle.pr_inval.specs.declared.node_fault.NodeFault.TheVariants.{NoMemory, Worn}
+use Rattle.pr_inval.specs.declared.node_fault.NodeFault.TheVariants.{Worn}
+use Rattle.pr_inval.specs.declared.node_fault.NodeFault.TheVariants as faults
+use Rattle.pr_flow.specs.declared.stop.Stop.{Stop}
+use Rattle.pr_flow.specs.declared.stop.Stop.TheVariants as stops
+use Rattle.pr_stamps.specs.declared.no_memory.NoMemory.{NoMemory}
 use Rattle.pr_node.specs.declared.answers.done.Done.{Done}
 use Rattle.pr_node.specs.declared.answers.done.Done.TheVariants as done
 use Rattle.pr_node.specs.declared.answers.seen.Seen.{Seen}
@@ -26,7 +30,7 @@ ForEachRun e P = (d : Declared) (attached : ℕ → Bool) (h : List NodeEntry) �
 
 -- a node is worn only behind as many entries as the greatest time
 abbrev pub IsCause : List NodeEntry → NodeFault → Type 0
-IsCause h NoMemory = Unit {0}
+IsCause h faults.NoMemory = Unit {0}
 IsCause h (Worn at) = (at ≡ 4611686018427387903) × (4611686018427387903 ≤ length h)
 
 -- ---- one entry
@@ -83,6 +87,19 @@ abbrev pub Ends : Line → Declared → (ℕ → Bool) → List NodeEntry → En
 Ends line d attached h e r =
     Grows (λ done es. LineGives JobAfterJob (attached_of d attached) line es) (λ es. LineBegins JobAfterJob (attached_of d attached) line es)
     d (attached_after line attached) h e r
+
+-- the answer of a step, or of a phase: the line was given, or it has begun, and other bytes came over a wire than were put
+abbrev pub StepEnds : Line → Declared → (ℕ → Bool) → List NodeEntry → Engine → Result Stop NoMemory → Type 0
+StepEnds line d attached h e (Ok stops.Went) = Ends line d attached h e (Ok tt)
+StepEnds line d attached h e (Ok (stops.Worn at)) = Ends line d attached h e (Err (Worn at))
+StepEnds line d attached h e (Ok (stops.Lied stream number sent got)) =
+    (new : List NodeEntry) × Tells d (new ++ h) e × LineBegins JobAfterJob (attached_of d attached) line (reverse new)
+StepEnds line d attached h e (Err refused) = Ends line d attached h e (Err faults.NoMemory)
+
+-- it is not that
+abbrev pub IsNoLie : {E : Type 0} → Result Stop E → Type 0
+IsNoLie (Ok (stops.Lied stream number sent got)) = ⊥
+IsNoLie _ = Unit {0}
 
 -- ---- clients
 

@@ -10,3 +10,4 @@ pub mod Sentences
 pub mod Histories
 pub mod Runs
 pub mod Apart
+pub mod FirstLines

@@ -7,3 +7,4 @@ pub mod Endings
 pub mod Steps
 pub mod Histories
 pub mod Laws
+pub mod Plain

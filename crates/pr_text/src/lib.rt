@@ -12,6 +12,7 @@ mod label;
 mod law;
 mod message;
 mod node;
+pub mod plain;
 mod rows;
 mod stamp;
 mod stream;

@@ -1,3 +1,5 @@
+mod lines;
+
 use crate::{bad, error, heads, lied, line, ok, unmet};
 use pr_inval::{Kind, Msg, Row, WriteRec};
 use pr_names::Name;

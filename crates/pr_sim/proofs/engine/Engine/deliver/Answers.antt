@@ -47,6 +47,9 @@ returns-in_ok-take_in-in-Some c d attached h k =
     let x = found d.plan h c.args.self.now c.args.stream c.args.number c.in-Some.place k.stands c.requires.stream (place_is _ c.args.stream c.args.number c.place_of.result (Some c.in-Some.place) c.place_of.ensures c.in-Some.is) in
     let same = c.in_ok-msg-in-Some.ensures x.msg (at_node d.plan h c.args.self.now c.args.stream c.route-source.result.source c.args.number c.in-Some.place k.stands r.0 r.2 x) in
     let of = ap (λ (m : Msg). m.stream) same ∙ x.stream in
-    let made = c.in_ok-take_in-in-Some.ensures d attached h k (subst (λ (m : Msg). WasSent h m) (sym same) x.sent) of in
-    (made.0, made.1, subst (λ (i : ℕ). Gives (ToDeliver c.args.stream i) made.0.node made.0.entry.event) (ap (λ (m : Msg). m.number) same ∙ x.number_is)
-    (delivered c.args.stream made.0.node c.in_ok-msg-in-Some.msg c.in_ok-take_in-in-Some.field-0 made.0.entry of made.2))
+    let made = c.in_ok-take_in-in-Some.ensures d attached h k (subst (λ (m : Msg). WasSent h m) (sym same) x.sent) of in (
+      made.0,
+      made.1,
+      subst (λ (i : ℕ). Gives (ToDeliver c.args.stream i) made.0.node made.0.entry.event) (ap (λ (m : Msg). m.number) same ∙ x.number_is)
+          (delivered c.args.stream made.0.node c.in_ok-msg-in-Some.msg c.in_ok-take_in-in-Some.field-0 made.0.entry of made.2),
+    )

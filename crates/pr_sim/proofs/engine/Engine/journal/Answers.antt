@@ -12,6 +12,6 @@ returns-in-Some c d h tells =
     let e = c.args.self.now in
     let found = c.in-Some.ensures.lookup.3 in
     let is : get_or e.nodes.items c.args.node None ≡ c.in-Some.slot.now =
-        sym (subst (λ (xs : List (Option Stored)). c.in-Some.slot.now ≡ get_or xs c.args.node None) c.deref.ensures.value (found.1 None)) in
+    sym (subst (λ (xs : List (Option Stored)). c.in-Some.slot.now ≡ get_or xs c.args.node None) c.deref.ensures.value (found.1 None)) in
     let known : c.args.node < length e.nodes.items = subst (λ (xs : List (Option Stored)). c.args.node < length xs) c.deref.ensures.value found.0 in
     journal_told d h e tells {J = Bor (Kept Entry)} (λ j. j.now.items) c.args.node c.in-Some.slot.now c.journal_of.result is known c.journal_of.ensures
