@@ -9,4 +9,5 @@ pub mod KindFields
 pub mod FrameLemmas
 pub mod FeedLemmas
 pub mod OnlyMessage
+pub mod FieldLaws
 pub mod WriteLemmas

@@ -212,6 +212,9 @@ row_at f floor to target bytes = do
   marks ← list_at (known_mark_at floor to known) (last_before mark_before) gone.1
   Some (record { name = name.0; newest = known; gone = gone.0; marks = marks.0 }, marks.1)
 
+abbrev pub rows_at : Format → List ℕ → List ℕ → List Span → List ℕ → Option (List Row × List ℕ)
+rows_at f floor to target bytes = list_at (row_at f floor to target) (last_before row_before) bytes
+
 -- ---- the fields of a message
 
 unfoldable pub write_at : Format → List ℕ → Option (WriteRec × List ℕ)

@@ -1,8 +1,8 @@
-// Why a frame's content is not read.
+// Why a field is not read.
 ghost use Rattle.pr_wire.specs.declared.fault.Fault.TheVariants as faults;
 ghost use Rattle.std.specs.Prelude.{◌≡◌};
 
-/// Want of memory, or the content is none of a message.
+/// Want of memory, or the bytes are none of the field.
 #[derive(Clone, Copy, Debug, PartialEq, Eq)]
 pub enum Fault {
     NoMemory,

@@ -1,7 +1,7 @@
 // A stream of frames, as it comes.
 ghost use Rattle.pr_inval.specs.declared.msg.Msg.{Msg};
 ghost use Rattle.pr_wire.specs.Feeding.{HasAnswered, HoldsJust, new_feed, pushed};
-ghost use Rattle.std.specs.Prelude.{◌≡◌, ◌≤◌, ◌<◌, ◌^◌, length, drop, IfOk, OnErr, OnOk};
+ghost use Rattle.std.specs.Prelude.{◌≡◌, ◌≤◌, ◌<◌, ◌^◌, ◌↔◌, [], length, drop, IfOk, IsTrue, OnErr, OnOk};
 
 use crate::frame::{Frame, read_frame};
 use crate::law::{messages_are_never_bad, no_frame_begins_another};
@@ -46,6 +46,20 @@ impl Feed {
             start: 0,
             given: 0,
         }
+    }
+
+    /// How many bytes were given, or `u64::MAX` where that number is greater, in constant time.
+    pub fn given(&self) -> u64
+        ensures { result ≡ self.now.given }
+    {
+        self.given
+    }
+
+    /// Whether all that was pushed was given, in constant time.
+    pub fn is_empty(&self) -> bool
+        ensures { IsTrue result ↔ (self.now.rest ≡ []) }
+    {
+        self.start == self.bytes.len()
     }
 
     /// Adds a piece at the end of the rest, in amortised time linear in the piece. A refusal leaves the feed.

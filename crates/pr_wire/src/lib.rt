@@ -1,6 +1,7 @@
 //! The wire format of messages.
 #![tactic(auto)]
 
+mod appending;
 mod encoding;
 mod fault;
 mod feed;
@@ -16,13 +17,19 @@ mod through;
 mod width;
 mod writing;
 
+pub use appending::{
+    append_mark, append_name, append_rows, append_set, append_stamp, append_vector,
+};
 pub use encoding::encode;
+pub use fault::Fault;
 pub use feed::Feed;
 pub use format::Format;
 pub use law::{
-    feeds_give_what_was_pushed, frames_spell_one_message, messages_are_never_bad,
-    messages_have_one_spelling, no_frame_begins_another,
+    bad_bytes_stay_bad, feeds_give_what_was_pushed, fields_are_read_again,
+    frames_spell_one_message, messages_are_never_bad, messages_have_one_spelling,
+    no_frame_begins_another,
 };
 pub use next::Next;
 pub use pieces::Pieces;
+pub use reading::{Bounds, Cursor};
 pub use through::through_bytes;

@@ -34,6 +34,13 @@ impl<'a> Pieces<'a> {
         Pieces { chunk, at: 0, left }
     }
 
+    // What is in the chunk, and then what is left.
+    pub(crate) fn of(chunk: Chunk, left: Left<'a>) -> Pieces<'a>
+        ensures { rest_of result ≡ chunk.items ++ left_text left.entry }
+    {
+        Pieces { chunk, at: 0, left }
+    }
+
     /// Gives the first bytes of the rest, as many as the buffer takes, and takes them off the rest. It gives 0 just
     /// where the rest is empty. The time is linear in what it gives.
     pub fn next(&mut self, buf: &mut [u8]) -> usize

@@ -8,3 +8,4 @@ mod vectors;
 
 pub use cursor::Cursor;
 pub use kinds::message;
+pub use lists::Bounds;

@@ -4,13 +4,15 @@ ghost use Rattle.std.specs.Prelude.{List};
 
 use crate::fault::Fault;
 
-/// The bytes that are still to be read. A call takes its field off their front; after a fault they are of no use.
+/// The bytes that are still to be read (docs/WIRE.md). A call takes its field off their front, in time linear in it; after
+/// a fault they are of no use. Bad says that the front is none of the field.
 #[derive(Drop)]
 pub struct Cursor<'a> {
     pub rest: &'a [u8],
 }
 
 impl<'a> Cursor<'a> {
+    /// A number in one byte.
     pub fn byte(&mut self) -> Result<u8, Fault>
         ensures { Gives (λ x. (x, self.new.rest.now)) result (byte_at self.old.rest.now) }
     {

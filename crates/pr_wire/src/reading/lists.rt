@@ -54,6 +54,7 @@ fn can_follow_row(rows: &Seq<Row>, row: &Row) -> bool
 }
 
 impl<'a> Cursor<'a> {
+    /// A set of names, as a target.
     #[tactic(auto, unfolding(crate::specs::Reading::list_at))]
     pub fn target(&mut self, alloc: Global) -> Result<NameSet, Fault>
         ensures { Gives (λ x. (x, self.new.rest.now)) result (target_at self.old.rest.now) }
@@ -137,7 +138,7 @@ impl<'a> Cursor<'a> {
         })
     }
 
-    /// The rows of a checkpoint.
+    /// The rows of a checkpoint with these bounds.
     #[tactic(auto, unfolding(crate::specs::Reading::list_at))]
     pub fn rows(&mut self, alloc: Global, bounds: &Bounds) -> Result<Seq<Row>, Fault>
         ensures { Gives (λ x. (x, self.new.rest.now)) result (list_at (row_at bounds.now.format bounds.now.floor.now bounds.now.to.now bounds.now.target.now) (last_before row_before) self.old.rest.now) }

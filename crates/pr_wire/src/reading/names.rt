@@ -7,6 +7,7 @@ use crate::reading::Cursor;
 use pr_names::{Bound, Interval, Name};
 
 impl<'a> Cursor<'a> {
+    /// A name.
     #[tactic(auto, unfolding(crate::specs::Reading::name_at))]
     pub fn name(&mut self) -> Result<Name, Fault>
         ensures { Gives (λ x. (x, self.new.rest.now)) result (name_at self.old.rest.now) }
@@ -19,6 +20,7 @@ impl<'a> Cursor<'a> {
         }
     }
 
+    /// The bound of an interval.
     #[tactic(auto, unfolding(crate::specs::Reading::bound_at))]
     pub fn bound(&mut self) -> Result<Bound, Fault>
         ensures { Gives (λ x. (x, self.new.rest.now)) result (bound_at self.old.rest.now) }
@@ -36,6 +38,7 @@ impl<'a> Cursor<'a> {
         }
     }
 
+    /// An interval.
     #[tactic(auto, unfolding(crate::specs::Reading::span_at))]
     pub fn span(&mut self) -> Result<Interval, Fault>
         ensures { Gives (λ x. (x, self.new.rest.now)) result (span_at self.old.rest.now) }

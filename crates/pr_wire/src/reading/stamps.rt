@@ -44,6 +44,7 @@ pub fn is_between(from: &Vector, to: &Vector, stamp: &Stamp) -> bool
 }
 
 impl<'a> Cursor<'a> {
+    /// A stamp.
     #[tactic(auto, unfolding(crate::specs::Reading::stamp_at))]
     pub fn stamp(&mut self) -> Result<Stamp, Fault>
         ensures { Gives (λ x. (x, self.new.rest.now)) result (stamp_at self.old.rest.now) }

@@ -61,6 +61,7 @@ impl<'a> Cursor<'a> {
         self.entries(count, from)
     }
 
+    /// A vector.
     #[tactic(auto, unfolding(crate::specs::Reading::vector_at))]
     pub fn vector(&mut self) -> Result<Vector, Fault>
         ensures { Gives (λ x. (x, self.new.rest.now)) result (vector_at self.old.rest.now) }
