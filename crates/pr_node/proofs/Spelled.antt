@@ -29,7 +29,7 @@ use Rattle.pr_story.specs.Ranges.{IsKind as IsKindInRange, IsMsg, IsRow as IsRow
 use Rattle.pr_story.specs.Turns.{IsTurn, SendTurn, IsSnapshot, IsSnapshotRow}
 use Rattle.pr_story.proofs.Basics.{clock_zero}
 use Rattle.pr_story.proofs.Known.{known_told, held_how}
-use Rattle.pr_story.proofs.Naming.{TellsMark, HeardOfMark, known_mark_told}
+use Rattle.pr_story.proofs.Naming.{TellsMark, WasToldMark, known_mark_told}
 use Rattle.pr_inval.specs.Messages.{AreInOrder, IsCheckpoint, IsEarlierMark, IsEarlierRow, IsKind, IsMark as IsMarkOfRow, IsMessage, IsPrev, IsRow}
 use Rattle.pr_node.specs.Grammar.{HasBytes, IsSpelled, IsSpelledEvent, IsStepSpelled}
 use Rattle.pr_node.specs.Ties.{IsMarkInRange}
@@ -192,7 +192,7 @@ mark_event e j (Accepted msg at) o m is k t = by msg.kind refl k t
     ]
 mark_event e j _ o m is k t = absurd t
 
-told_mark : (j : List Entry) → IsSpelled j → (o : List ℕ) (m : Mark) → HeardOfMark j o m → MarkTold j o m × Covers (current_vector j) m.stamp
+told_mark : (j : List Entry) → IsSpelled j → (o : List ℕ) (m : Mark) → WasToldMark j o m → MarkTold j o m × Covers (current_vector j) m.stamp
 told_mark [] spelled o m t = absurd t
 told_mark (e ∷ j) spelled o m t = elim t [
   | inl now ↦ mark_event e j e.event o m refl spelled.0 now
