@@ -9,5 +9,6 @@ pub mod Messages
 pub mod Sentences
 pub mod Histories
 pub mod Runs
+pub mod RunsOn
 pub mod Apart
 pub mod FirstLines

@@ -69,13 +69,26 @@ abbrev pub is_unmet : Command → List NodeEntry → Bool
 is_unmet (commands.Expect want) es = not (is_met_by want es)
 is_unmet c es = false
 
+-- the line of the step, where it is such an `expect`
+abbrev pub unmet_at : Step → List NodeEntry → Option ℕ
+unmet_at (script.Alone c) es = cond (is_unmet c.1 es) (Some c.0) None
+unmet_at (script.Phase inside) es = None
+
+abbrev pub first_of : Option ℕ → Option ℕ → Option ℕ
+first_of (Some line) later = Some line
+first_of None later = later
+
 -- the line of the first expectation that is not met, where the steps give these entries, one list for each, behind those
 -- of the step before
 abbrev pub unmet_from : List NodeEntry → List Step → List (List NodeEntry) → Option ℕ
 unmet_from es [] parts = None
 unmet_from es (step ∷ steps) [] = None
-unmet_from es (script.Alone c ∷ steps) (part ∷ parts) = cond (is_unmet c.1 es) (Some c.0) (unmet_from part steps parts)
-unmet_from es (script.Phase inside ∷ steps) (part ∷ parts) = unmet_from part steps parts
+unmet_from es (step ∷ steps) (part ∷ parts) = first_of (unmet_at step es) (unmet_from part steps parts)
+
+-- the entries of the last step, behind those of a step before
+abbrev pub last_part : List NodeEntry → List (List NodeEntry) → List NodeEntry
+last_part es [] = es
+last_part es (part ∷ parts) = last_part part parts
 
 -- each line gives its list of entries; of all streams some are attached
 abbrev pub EachGives : Order → List ℕ → (ℕ → Bool) → List Line → List (List NodeEntry) → Type 0
@@ -84,6 +97,11 @@ EachGives order streams attached (line ∷ lines) (part ∷ parts) =
     LineGives order (filter attached streams) line part × EachGives order streams (attached_after line attached) lines parts
 EachGives order streams attached [] (part ∷ parts) = ⊥
 EachGives order streams attached (line ∷ lines) [] = ⊥
+
+-- the streams that are attached after the lines
+abbrev pub attached_by : List Line → (ℕ → Bool) → ℕ → Bool
+attached_by [] attached = attached
+attached_by (line ∷ lines) attached = attached_by lines (attached_after line attached)
 
 abbrev pub joined : List (List NodeEntry) → List NodeEntry
 joined [] = []

@@ -1,5 +1,5 @@
 // What holds of all transcripts.
-ghost use Rattle.pr_text.specs.Laws.{PhasesAreApart, RunsAreHistories, ScriptsHaveApartJobs};
+ghost use Rattle.pr_text.specs.Laws.{ExpectationsGoOn, LinesGoOn, PhasesAreApart, RunsAreHistories, ScriptsHaveApartJobs};
 ghost use Rattle.pr_text.specs.Transcripts.{LinesTell};
 
 /// Two histories of one script's declarations that have the same lines are the same but for the callers' numbers.
@@ -18,4 +18,11 @@ pub fn runs_are_histories()
 pub fn phases_have_apart_jobs()
     ensures phases { PhasesAreApart }
     ensures scripts { ScriptsHaveApartJobs }
+{}
+
+/// A run goes on line by line: one line more gives one list of entries more, and leaves unmet what the lines before did,
+/// or else what it leaves unmet itself.
+pub fn runs_go_on()
+    ensures lines { LinesGoOn }
+    ensures expectations { ExpectationsGoOn }
 {}
