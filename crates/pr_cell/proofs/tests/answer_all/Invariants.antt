@@ -1,4 +1,4 @@
-use Rattle.std.proofs.Common.{◌≡◌, ◌+◌}
+use Rattle.std.proofs.Common.{◌≡◌}
 use Rattle.pr_cell.specs.Passes.{held, IsPassOf}
 use Rattle.pr_cell.proofs.tests.answer_all.Given as goal
 
