@@ -1,6 +1,6 @@
 -- A turn is one lawful entry, and its session goes on by it.
 use Rattle.std.proofs.Common.{◌≡◌, ℕ, ◌<◌, ◌+◌, ◌^◌, inl, List, refl, sym, ◌∙◌, subst}
-use Rattle.std.specs.Prelude.{true, false, IsTrue}
+use Rattle.std.specs.Prelude.{true, IsTrue}
 use Rattle.pr_names.specs.Span.{Span}
 use Rattle.pr_inval.specs.declared.kind.Kind.{Kind}
 use Rattle.pr_inval.specs.declared.kind.Kind.TheVariants.{Precise, Imprecise, Checkpoint, Body}

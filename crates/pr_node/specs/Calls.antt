@@ -1,9 +1,6 @@
 -- What the calls of a node do: each makes one lawful entry, or has its fault.
 use Rattle.std.specs.Prelude.{ℕ, List, Bool, true, false, ◌∷◌, ◌≡◌, ◌≤◌, ◌<◌, ◌⊎◌, max}
-use Rattle.pr_stamps.specs.Point.{Point}
 use Rattle.pr_vectors.specs.Vector.{Le}
-use Rattle.pr_inval.specs.declared.kind.Kind.{Kind}
-use Rattle.pr_inval.specs.declared.kind.Kind.TheVariants.{Checkpoint}
 use Rattle.pr_inval.specs.declared.msg.Msg.{Msg}
 use Rattle.pr_inval.specs.declared.node_fault.NodeFault.{NodeFault}
 use Rattle.pr_inval.specs.declared.node_fault.NodeFault.TheVariants.{NoMemory, Worn}
@@ -13,7 +10,7 @@ use Rattle.pr_inval.specs.declared.taken.Taken.{Taken}
 use Rattle.pr_inval.specs.declared.taken.Taken.TheVariants as taken
 use Rattle.pr_inval.specs.declared.write_rec.WriteRec.{WriteRec}
 use Rattle.pr_inval.specs.Points.{from_of}
-use Rattle.pr_inval.specs.Standing.{Standing, SessionMeaning}
+use Rattle.pr_inval.specs.Standing.{Standing}
 use Rattle.pr_story.specs.declared.cause.Cause.{Cause}
 use Rattle.pr_story.specs.declared.entry.Entry.{Entry}
 use Rattle.pr_story.specs.declared.event.Event.{Event}
