@@ -1,10 +1,10 @@
 -- A run that goes on by one line more.
-use Rattle.std.proofs.Common.{◌≡◌, ℕ, Bool, true, false, List, [], ◌∷◌, ◌++◌, Option, Some, None, refl, sym, ap, ◌∙◌, append_assoc, append-nil, arith}
-use Rattle.std.specs.Prelude.{filter, length}
+use Rattle.std.proofs.Common.{◌≡◌, ℕ, List, [], ◌∷◌, ◌++◌, Option, Some, None, refl, sym, ap, ◌∙◌, append_assoc, append-nil, arith}
+use Rattle.std.specs.Prelude.{length}
 use Rattle.pr_script.specs.Steps.{Step}
 use Rattle.pr_story.specs.History.{NodeEntry}
-use Rattle.pr_story.specs.Scripts.{Line, Order, LineGives, attached_after}
-use Rattle.pr_text.specs.Histories.{EachGives, attached_by, first_of, joined, last_part, unmet_at, unmet_from}
+use Rattle.pr_story.specs.Scripts.{attached_after}
+use Rattle.pr_text.specs.Histories.{first_of, joined, last_part, unmet_at, unmet_from}
 use Rattle.pr_text.specs.Laws.{LinesGoOn, ExpectationsGoOn}
 
 pub gives_more : LinesGoOn
