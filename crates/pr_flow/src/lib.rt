@@ -10,6 +10,7 @@ mod stop;
 #[cfg(test)]
 mod tests;
 
+pub use carrying::{Carried, carry};
 pub use flow_end::FlowEnd;
 pub use flowing::flow;
 pub use side::Side;

@@ -3,7 +3,6 @@ use Rattle.std.proofs.Common.{◌≡◌, ℕ, ◌<◌, List, ◌∷◌, Ok, refl
 use Rattle.std.specs.Prelude.{true, Bool, IsTrue, Some, None, Option}
 use Rattle.std.proofs.lemmas.List.{length-set}
 use Rattle.pr_vectors.specs.Vector.{zero_vector}
-use Rattle.pr_inval.specs.Standing.{Remembered}
 use Rattle.pr_node.specs.Calls.{Adds, AddsAlone, AddsOfClient, IsMoveOf, IsStateEvent}
 use Rattle.pr_node.specs.Stored.{Stored, means}
 use Rattle.pr_story.specs.declared.entry.Entry.{Entry}

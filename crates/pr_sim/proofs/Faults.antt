@@ -1,5 +1,5 @@
 -- Why a call makes no entry, and what stays then.
-use Rattle.std.proofs.Common.{◌≡◌, ◌≢◌, ◌⊎◌, ℕ, ◌<◌, ◌≤◌, ◌+◌, List, [], ◌∷◌, Result, Ok, Err, IsErrAnd, inl, inr, refl, sym, ◌∙◌, ap, subst, max, nat_eq, length, get_or, arith}
+use Rattle.std.proofs.Common.{◌≡◌, ◌≢◌, ◌⊎◌, ℕ, ◌<◌, ◌≤◌, ◌+◌, List, [], ◌∷◌, Result, IsErrAnd, inl, inr, refl, sym, ◌∙◌, ap, subst, max, nat_eq, length, get_or, arith}
 use Rattle.std.specs.Prelude.{true, false, Bool, IsTrue, Some, None, Option}
 use Rattle.std.proofs.lemmas.List.{get_or_past}
 use Rattle.std.proofs.lemmas.Result.{err_from_is_err_and}

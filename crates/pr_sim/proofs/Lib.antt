@@ -8,3 +8,5 @@ pub mod OfClients
 pub mod OfStreams
 pub mod Sendings
 pub mod Receiving
+pub mod Flows
+pub mod Turns

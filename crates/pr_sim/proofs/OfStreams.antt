@@ -7,8 +7,6 @@ use Rattle.pr_stamps.specs.Kept.{Kept}
 use Rattle.pr_inval.specs.declared.msg.Msg.{Msg}
 use Rattle.pr_inval.specs.declared.step.Step.{Step}
 use Rattle.pr_inval.specs.declared.step.Step.TheVariants as steps
-use Rattle.pr_inval.specs.declared.kind.Kind.{Kind}
-use Rattle.pr_inval.specs.declared.kind.Kind.TheVariants.{Precise, Imprecise, Checkpoint, Body}
 use Rattle.pr_inval.specs.Standing.{HasDetached, Remembered, SessionMeaning, Standing}
 use Rattle.pr_inval.specs.Standing as session
 use Rattle.pr_node.specs.Calls.{Adds, IsAttachedAt, IsCheckpointSent, IsStep}
@@ -19,7 +17,7 @@ use Rattle.pr_story.specs.declared.entry.Entry.{Entry}
 use Rattle.pr_story.specs.declared.event.Event.{Event}
 use Rattle.pr_story.specs.declared.event.Event.TheVariants.{Attached, Sent, Idle, Stale}
 use Rattle.pr_story.specs.Clients.{client_vector, is_of_client}
-use Rattle.pr_story.specs.Commands.{Gives, IsCheckpoint, IsNoCheckpoint, ToAttach, ToCheckpoint, ToSend}
+use Rattle.pr_story.specs.Commands.{Gives, ToAttach, ToCheckpoint, ToSend}
 use Rattle.pr_story.specs.History.{Plan, NodeEntry, Sends, journal}
 use Rattle.pr_story.specs.Lawful.{HasCause, IsPlaced, heard_time, last_time}
 use Rattle.pr_story.specs.Laws.{StandsFor}

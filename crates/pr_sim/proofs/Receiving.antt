@@ -1,5 +1,5 @@
 -- A message is delivered.
-use Rattle.std.proofs.Common.{◌≡◌, ◌≢◌, ◌⊎◌, Result, ℕ, ◌+◌, ◌-◌, ◌<◌, ◌≤◌, List, [], ◌∷◌, Ok, inl, inr, refl, sym, ◌∙◌, ap, subst, max, cond, length, get_or, arith, reverse}
+use Rattle.std.proofs.Common.{◌≡◌, ◌≢◌, ◌⊎◌, ℕ, ◌+◌, ◌-◌, ◌<◌, ◌≤◌, List, [], ◌∷◌, Ok, inl, inr, refl, sym, ◌∙◌, ap, subst, max, cond, length, get_or, arith, reverse}
 use Rattle.std.specs.Prelude.{true, false, Bool, IsTrue, Some, None, Option}
 use Rattle.std.proofs.lemmas.Bool.{cases_eq}
 use Rattle.std.proofs.lemmas.Bool.Decides.{Decides-eqb}
@@ -7,7 +7,6 @@ use Rattle.std.proofs.lemmas.List.{reverse-reverse}
 use Rattle.pr_stamps.specs.Kept.{Kept}
 use Rattle.pr_stamps.specs.Point.{Point}
 use Rattle.pr_inval.specs.declared.msg.Msg.{Msg}
-use Rattle.pr_inval.specs.declared.node_fault.NodeFault.{NodeFault}
 use Rattle.pr_inval.specs.declared.taken.Taken.{Taken}
 use Rattle.pr_inval.specs.declared.taken.Taken.TheVariants as taken
 use Rattle.pr_inval.specs.Standing.{HasHeard, Remembered, Standing}
@@ -21,7 +20,6 @@ use Rattle.pr_story.specs.Clients.{client_vector, is_of_client}
 use Rattle.pr_story.specs.Commands.{Gives, ToDeliver}
 use Rattle.pr_story.specs.History.{Plan, NodeEntry, Sends, WasSent, journal}
 use Rattle.pr_story.specs.Lawful.{HasCause, IsPlaced}
-use Rattle.pr_story.specs.Scripts.{Single}
 use Rattle.pr_story.specs.Turns.{count_after, position_after, sent_after, is_of_stream, is_timed, is_with_session, standing, position, sent_count, has_sent, stream_time}
 use Rattle.pr_wire.specs.Messages.{IsMessage}
 use Rattle.pr_sim.specs.Commands.{GivesIt, IsTakingMade, MakesOne}

@@ -1,5 +1,5 @@
 -- The engine goes on behind one entry.
-use Rattle.std.proofs.Common.{◌≡◌, ◌⊎◌, ℕ, ◌<◌, List, ◌∷◌, inl, inr, refl, sym, ◌∙◌, ap, subst, nat_eq, length, get_or, arith}
+use Rattle.std.proofs.Common.{◌≡◌, ◌⊎◌, ℕ, ◌<◌, List, ◌∷◌, inl, inr, sym, ◌∙◌, ap, subst, length, get_or, arith}
 use Rattle.std.specs.Prelude.{true, false, Bool, Some, None, Option}
 use Rattle.std.proofs.lemmas.Bool.{cases_eq}
 use Rattle.pr_inval.specs.Standing.{Remembered}

@@ -1,6 +1,6 @@
 -- An entry of the history, by its place.
 use Rattle.std.proofs.Common.{◌≡◌, ◌⊎◌, ℕ, suc, ◌<◌, ◌≤◌, ◌+◌, List, [], ◌∷◌, ◌++◌, inl, inr, refl, sym, ◌∙◌, ap, subst, cond, nat_eq, length, get_or, reverse, arith}
-use Rattle.std.specs.Prelude.{true, false, Bool, IsTrue, MatchOption, Some, None, Option}
+use Rattle.std.specs.Prelude.{true, false, Bool, MatchOption, Some, None, Option}
 use Rattle.std.proofs.lemmas.List.{get_or_append_left, get_or_push, length-append, length-reverse, reverse-append}
 use Rattle.std.proofs.lemmas.Bool.{cases_lt}
 use Rattle.std.proofs.lemmas.Bool.Decides.{Decides-eqb}

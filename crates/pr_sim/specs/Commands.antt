@@ -1,5 +1,5 @@
 -- What the calls of an engine make.
-use Rattle.std.specs.Prelude.{ℕ, List, [], ◌∷◌, ◌++◌, ◌≡◌, ◌≤◌, Bool, Result, Ok, Err, filter, length, reverse}
+use Rattle.std.specs.Prelude.{ℕ, List, ◌∷◌, ◌++◌, ◌≡◌, ◌≤◌, Bool, Result, Ok, Err, filter, length, reverse}
 use Rattle.pr_inval.specs.declared.node_fault.NodeFault.{NodeFault}
 use Rattle.pr_inval.specs.declared.node_fault.NodeFault.TheVariants.{Worn}
 use Rattle.pr_inval.specs.declared.node_fault.NodeFault.TheVariants as faults

@@ -2,3 +2,4 @@ pub mod Places
 pub mod Running
 pub mod Commands
 pub mod Messages
+pub mod Flowing

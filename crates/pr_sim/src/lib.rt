@@ -4,6 +4,7 @@
 mod clients;
 mod delivering;
 mod engine;
+mod flowing;
 mod messages;
 mod nodes;
 mod slots;

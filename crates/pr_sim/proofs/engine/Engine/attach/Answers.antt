@@ -3,9 +3,7 @@ use Rattle.pr_inval.specs.Standing as session
 use Rattle.pr_node.specs.Stored.{means}
 use Rattle.pr_story.specs.Clients.{client_vector}
 use Rattle.pr_story.specs.Commands.{ToAttach}
-use Rattle.pr_story.specs.History.{journal}
 use Rattle.pr_story.specs.Scripts.{Single, attached_after}
-use Rattle.pr_story.specs.Turns.{standing}
 use Rattle.pr_sim.specs.Commands.{GivesIt}
 use Rattle.pr_sim.proofs.Faults.{no_memory, not_made, same_journal, stopped_same, stopped_still, this_cause, time_is_worn}
 use Rattle.pr_sim.proofs.Step.{place_len, replaced, within_of}

@@ -2,7 +2,6 @@ use Rattle.std.proofs.Common.{[], ◌∷◌, ◌++◌, refl, ◌∙◌, ap, arit
 use Rattle.pr_node.specs.Stored.{means}
 use Rattle.pr_story.specs.declared.event.Event.TheVariants.{Cut}
 use Rattle.pr_story.specs.Commands.{ToCut}
-use Rattle.pr_story.specs.History.{journal}
 use Rattle.pr_sim.specs.Commands.{GivesIt}
 use Rattle.pr_sim.proofs.Ending.{quiet_ends}
 use Rattle.pr_sim.proofs.Faults.{no_memory, not_made, same_journal, stopped_same, stopped_still, this_cause, time_is_worn}

@@ -1,8 +1,7 @@
-use Rattle.std.proofs.Common.{◌≡◌, ℕ, ◌<◌, List, refl, sym, ◌∙◌, ap, subst, length, get_or, reverse}
-use Rattle.std.specs.Prelude.{Some, None}
+use Rattle.std.proofs.Common.{◌≡◌, ℕ, ◌<◌, List, sym, ◌∙◌, ap, subst, length, get_or, reverse}
+use Rattle.std.specs.Prelude.{None}
 use Rattle.pr_node.specs.Stored.{Stored, means}
 use Rattle.pr_story.specs.declared.entry.Entry.{Entry}
-use Rattle.pr_story.specs.History.{journal}
 use Rattle.pr_sim.proofs.Step.{some_is}
 use Rattle.pr_sim.proofs.Telling.{node_stands, place_stands, some_entry, within_places}
 use Rattle.pr_sim.proofs.engine.Engine.entry.Goals as goal

@@ -2,7 +2,6 @@ use Rattle.std.proofs.Common.{[], ◌∷◌, ◌++◌, refl, ◌∙◌, ap, arit
 use Rattle.std.specs.Vec.{with_item}
 use Rattle.pr_node.specs.Stored.{means}
 use Rattle.pr_story.specs.Commands.{ToMove}
-use Rattle.pr_story.specs.History.{journal}
 use Rattle.pr_sim.specs.Commands.{GivesIt}
 use Rattle.pr_sim.proofs.Ending.{move_ends}
 use Rattle.pr_sim.proofs.Faults.{no_memory, not_made, same_journal, stopped_same, stopped_still, this_cause, time_is_worn}

@@ -3,8 +3,6 @@ use Rattle.std.specs.Prelude.{IsTrue}
 use Rattle.pr_inval.specs.Standing as session
 use Rattle.pr_node.specs.Stored.{means}
 use Rattle.pr_story.specs.Clients.{client_vector}
-use Rattle.pr_story.specs.History.{journal}
-use Rattle.pr_story.specs.Turns.{standing}
 use Rattle.pr_sim.specs.Commands.{IsCheckpointMade}
 use Rattle.pr_sim.proofs.Faults.{no_memory, not_made, same_journal, stopped_same, stopped_still, this_cause, time_is_worn}
 use Rattle.pr_sim.proofs.Step.{place_len, replaced, some_is, within_of}

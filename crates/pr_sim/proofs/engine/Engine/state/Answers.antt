@@ -1,7 +1,6 @@
 use Rattle.std.proofs.Common.{[], ◌∷◌, ◌++◌, refl, ◌∙◌, ap, arith}
 use Rattle.pr_node.specs.Stored.{means}
 use Rattle.pr_story.specs.Commands.{ToTellState}
-use Rattle.pr_story.specs.History.{journal}
 use Rattle.pr_sim.specs.Commands.{GivesIt}
 use Rattle.pr_sim.proofs.Ending.{quiet_ends_by, state_quiet}
 use Rattle.pr_sim.proofs.Faults.{no_memory, not_made, same_journal, stopped_same, stopped_still, this_cause, time_is_worn}

@@ -1,0 +1,41 @@
+use Rattle.std.proofs.Common.{[], ◌∷◌, refl, sym, subst}
+use Rattle.std.specs.Prelude.{Some}
+use Rattle.pr_inval.specs.declared.msg.Msg.{Msg}
+use Rattle.pr_flow.specs.declared.carrying.Carried.{Carried}
+use Rattle.pr_flow.specs.Moving.{HasCarried}
+use Rattle.pr_story.specs.Scripts.{events_of}
+use Rattle.pr_sim.specs.Commands.{Grows}
+use Rattle.pr_sim.specs.Flowing.{IsBegun, IsOnTheWay, TurnsEnd}
+use Rattle.pr_sim.proofs.Faults.{no_memory, stopped_same, this_cause}
+use Rattle.pr_sim.proofs.Flows.{cut_can, cut_is_no_gap, down_is, not_grown, sent_begun}
+use Rattle.pr_sim.proofs.engine.Engine.cross.Goals as goal
+
+pub returns-in_err-msg-clause-flowed : goal.returns-in_err-msg-clause-flowed
+returns-in_err-msg-clause-flowed g c d attached h k way =
+    not_grown d attached h (λ end es. (left : _) → TurnsEnd c.args.stream (Some c.args.msg.now) left left end (events_of es)) (λ es. (left : _) → IsBegun c.args.stream (Some c.args.msg.now) left (events_of es)) c.args.self.now _ c.from_residual.result c.from_residual.ensures.1
+    (no_memory h) (stopped_same d attached h c.args.self.now c.args.self.now k refl refl) (λ left. sent_begun c.args.stream left c.args.msg.now)
+
+pub returns-in_err-go_down-in-Cut-clause-flowed : goal.returns-in_err-go_down-in-Cut-clause-flowed
+returns-in_err-go_down-in-Cut-clause-flowed g c d attached h k way =
+    let w = g.W.Wire in
+    let moved = subst (λ (x : Carried). HasCarried (w.state c.args.wire.now) (w.state c.carry.new.wire) c.args.msg.now x) c.in-Cut.is c.in_ok-msg.ensures.moved in
+    let was = c.in_err-go_down-in-Cut.ensures d attached h k (cut_can d.plan h c.args.stream c.in-Cut.cause (w.state c.args.wire.now) (w.state c.carry.new.wire) moved.0 way.2) in
+    not_grown d attached h (λ end es. (left : _) → TurnsEnd c.args.stream (Some c.args.msg.now) left left end (events_of es)) (λ es. (left : _) → IsBegun c.args.stream (Some c.args.msg.now) left (events_of es)) c.go_down.new.self _ c.from_residual-in_err-go_down-in-Cut.result c.from_residual-in_err-go_down-in-Cut.ensures.1
+    (λ fault is. this_cause h c.in_err-go_down-in-Cut.field-0.0 fault was.1 is) was.0 (λ left. sent_begun c.args.stream left c.args.msg.now)
+
+pub returns-in-Whole-clause-flowed : goal.returns-in-Whole-clause-flowed
+returns-in-Whole-clause-flowed g c d attached h k way =
+    let w = g.W.Wire in
+    let moved = subst (λ (x : Carried). HasCarried (w.state c.args.wire.now) (w.state c.carry.new.wire) c.args.msg.now x) c.in-Whole.is c.in_ok-msg.ensures.moved in
+    subst (λ (m : Msg). Grows (λ end es. (left : _) → TurnsEnd c.args.stream (Some m) left left end (events_of es)) (λ es. (left : _) → IsBegun c.args.stream (Some m) left (events_of es)) d attached h c.arrive.new.self c.arrive.result) moved.0
+    (c.arrive.ensures.flowed d attached h k (subst (λ (m : Msg). IsOnTheWay h c.args.stream m) (sym moved.0) way))
+
+pub returns-in_ok-go_down-in-Cut-clause-flowed : goal.returns-in_ok-go_down-in-Cut-clause-flowed
+returns-in_ok-go_down-in-Cut-clause-flowed g c d attached h k way =
+    let w = g.W.Wire in
+    let moved = subst (λ (x : Carried). HasCarried (w.state c.args.wire.now) (w.state c.carry.new.wire) c.args.msg.now x) c.in-Cut.is c.in_ok-msg.ensures.moved in
+    let made = c.in_ok-go_down-in-Cut.ensures d attached h k (cut_can d.plan h c.args.stream c.in-Cut.cause (w.state c.args.wire.now) (w.state c.carry.new.wire) moved.0 way.2) in
+    (made.0 ∷ [], made.1, λ left. down_is c.args.stream left c.args.msg.now c.in-Cut.cause made.0 (cut_is_no_gap c.in-Cut.cause (w.state c.args.wire.now) (w.state c.carry.new.wire) moved.0) made.2)
+
+pub returns-in-Lied-clause-flowed : goal.returns-in-Lied-clause-flowed
+returns-in-Lied-clause-flowed g c d attached h k way = ([], k, λ left. sent_begun c.args.stream left c.args.msg.now)

@@ -1,0 +1,35 @@
+use Rattle.std.proofs.Common.{[], ◌∷◌, Err, inr, ap}
+use Rattle.std.specs.Prelude.{None}
+use Rattle.pr_flow.specs.declared.flow_end.FlowEnd.{FlowEnd}
+use Rattle.pr_story.specs.declared.event.Event.{Event}
+use Rattle.pr_story.specs.Scripts.{Flow, JobAfterJob, LineBegins, events_of}
+use Rattle.pr_sim.specs.Commands.{attached_of}
+use Rattle.pr_sim.specs.Flowing.{IsBegun, TurnsEnd}
+use Rattle.pr_sim.proofs.Flows.{grows_behind, is_attached}
+use Rattle.pr_sim.proofs.Turns.{failed_begins, flow_begins, flow_failed, stop_ends}
+use Rattle.pr_sim.proofs.engine.Engine.flow.Goals as goal
+
+pub returns-in_err-go_down-in-Err-clause-flowed : goal.returns-in_err-go_down-in-Err-clause-flowed
+returns-in_err-go_down-in-Err-clause-flowed g c d attached h k =
+    let s = c.args.stream in
+    let was = c.in_err-go_down-in-Err.ensures d attached h k (is_attached d attached h c.args.self.now s k c.requires.stream c.requires.attached, tt) in
+    flow_failed s c.args.turns d attached h c.go_down.new.self c.in_err-go_down-in-Err.field-0.0 c.from_residual.result c.from_residual.ensures.1
+    ([], was.0, failed_begins s c.args.turns (attached_of d attached), was.1)
+
+pub returns-in_err-end-in-Ok-clause-flowed : goal.returns-in_err-end-in-Ok-clause-flowed
+returns-in_err-end-in-Ok-clause-flowed g c d attached h k =
+    let s = c.args.stream in
+    flow_failed s c.args.turns d attached h c.flow_over-end.new.self c.in_err-end-in-Ok.field-0.0 c.from_residual-in_err-end-in-Ok.result c.from_residual-in_err-end-in-Ok.ensures.1
+    (grows_behind d attached h [] c.flow_over-end.new.self (λ (end : FlowEnd) es. TurnsEnd s None c.args.turns 0 end (events_of es)) (λ (end : FlowEnd) es. TurnsEnd s None c.args.turns 0 end (events_of es))
+    (λ es. IsBegun s None c.args.turns (events_of es)) (λ es. LineBegins JobAfterJob (attached_of d attached) (Flow s c.args.turns) es) (Err c.in_err-end-in-Ok.field-0.0)
+    (λ end es is. is) (λ es is. flow_begins s c.args.turns (attached_of d attached) es is) (c.in_err-end-in-Ok.ensures.flowed d attached h k))
+
+pub returns-in_ok-go_down-in-Err-clause-flowed : goal.returns-in_ok-go_down-in-Err-clause-flowed
+returns-in_ok-go_down-in-Err-clause-flowed g c d attached h k =
+    let s = c.args.stream in
+    let made = c.in_ok-go_down-in-Err.ensures d attached h k (is_attached d attached h c.args.self.now s k c.requires.stream c.requires.attached, tt) in
+    (made.0 ∷ [], made.1, inr (ap (λ (v : Event). v ∷ []) made.2))
+
+pub returns-in_ok-end-in-Ok-clause-flowed : goal.returns-in_ok-end-in-Ok-clause-flowed
+returns-in_ok-end-in-Ok-clause-flowed g c d attached h k =
+    stop_ends c.args.stream c.args.turns d attached h c.flow_over-end.new.self c.in_ok-end-in-Ok.field-0 c.stop_of.result c.stop_of.ensures (c.in_ok-end-in-Ok.ensures.flowed d attached h k)

@@ -1,0 +1,55 @@
+use Rattle.std.proofs.Common.{[], ◌∷◌, ◌+◌, arith}
+use Rattle.std.specs.Prelude.{None, Some}
+use Rattle.pr_story.specs.Scripts.{events_of}
+use Rattle.pr_sim.specs.Flowing.{IsBegun, TurnsEnd}
+use Rattle.pr_sim.proofs.Faults.{this_cause}
+use Rattle.pr_sim.proofs.Flows.{grows_behind, idle_leads, is_attached, none_begun, not_grown, on_the_way, same_streams, sent_begins, sent_ends, sent_step, stale_ends}
+use Rattle.pr_sim.proofs.engine.Engine.flow_turn.Goals as goal
+
+pub returns-in_err-turn-clause-flowed : goal.returns-in_err-turn-clause-flowed
+returns-in_err-turn-clause-flowed g c d attached h k =
+    let was = c.in_err-turn.ensures d attached h k in
+    not_grown d attached h (λ end es. (left : _) → TurnsEnd c.args.stream None (left + 1) left end (events_of es)) (λ es. (left : _) → IsBegun c.args.stream None (left + 1) (events_of es)) c.turn.new.self _ c.from_residual.result c.from_residual.ensures.1
+    (λ fault is. this_cause h c.in_err-turn.field-0.0 fault was.1 is) was.0 (λ left. none_begun c.args.stream left)
+
+pub cross-requires-clause-kept : goal.cross-requires-clause-kept
+cross-requires-clause-kept g c =
+    let k = c.requires.kept in
+    let made = c.in_ok-turn.ensures k.0 k.1 k.2 k.3 in
+    let turned = sent_step c.args.stream c.in_ok-turn.field-0 c.in-Sent.msg made.0 c.in-Sent.is made.2 in
+    (k.0, k.1, made.0 ∷ k.2, made.1, on_the_way c.args.stream c.in-Sent.msg made.0 k.2 turned (is_attached k.0 k.1 k.2 c.args.self.now c.args.stream k.3 c.requires.stream c.requires.attached))
+
+pub cross-requires-clause-stream : goal.cross-requires-clause-stream
+cross-requires-clause-stream g c =
+    let k = c.requires.kept in
+    let made = c.in_ok-turn.ensures k.0 k.1 k.2 k.3 in
+    let same = same_streams k.0 k.1 k.1 k.2 (made.0 ∷ k.2) c.args.self.now c.turn.new.self k.3 made.1 in
+    let lt = c.requires.stream in omega arith
+
+pub cross-requires-clause-message : goal.cross-requires-clause-message
+cross-requires-clause-message g c =
+    let k = c.requires.kept in
+    let made = c.in_ok-turn.ensures k.0 k.1 k.2 k.3 in
+    (sent_step c.args.stream c.in_ok-turn.field-0 c.in-Sent.msg made.0 c.in-Sent.is made.2).1.2
+
+pub returns-in-Idle-clause-flowed : goal.returns-in-Idle-clause-flowed
+returns-in-Idle-clause-flowed g c d attached h k =
+    let made = c.in_ok-turn.ensures d attached h k in
+    (made.0 ∷ [], made.1, λ left. idle_leads c.args.stream left c.in_ok-turn.field-0 made.0 c.in-Idle.is made.2.0)
+
+pub returns-in-Stale-clause-flowed : goal.returns-in-Stale-clause-flowed
+returns-in-Stale-clause-flowed g c d attached h k =
+    let made = c.in_ok-turn.ensures d attached h k in
+    (made.0 ∷ [], made.1, λ left. stale_ends c.args.stream left c.in_ok-turn.field-0 c.in-Stale.cut made.0 c.in-Stale.is made.2.0)
+
+pub returns-in-Sent-clause-flowed : goal.returns-in-Sent-clause-flowed
+returns-in-Sent-clause-flowed g c d attached h k =
+    let made = c.in_ok-turn.ensures d attached h k in
+    let m = c.in-Sent.msg in
+    let s = c.args.stream in
+    let turned = sent_step s c.in_ok-turn.field-0 m made.0 c.in-Sent.is made.2 in
+    let way = on_the_way s m made.0 h turned (is_attached d attached h c.args.self.now s k c.requires.stream c.requires.attached) in
+    grows_behind d attached h (made.0 ∷ []) c.cross.new.self (λ end es. (left : _) → TurnsEnd s (Some m) left left end (events_of es)) (λ end es. (left : _) → TurnsEnd s None (left + 1) left end (events_of es))
+    (λ es. (left : _) → IsBegun s (Some m) left (events_of es)) (λ es. (left : _) → IsBegun s None (left + 1) (events_of es)) c.cross.result
+    (λ end es is left. sent_ends s left m made.0 end (events_of es) turned (is left)) (λ es is left. sent_begins s left m made.0 (events_of es) turned (is left))
+    (c.cross.ensures.flowed d attached (made.0 ∷ h) made.1 way)

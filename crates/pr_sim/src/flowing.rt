@@ -1,0 +1,163 @@
+// A stream flows over a wire.
+ghost use Rattle.pr_flow.specs.Ending.{EndsByWire};
+ghost use Rattle.pr_inval.specs.declared.msg.Msg.{Msg};
+ghost use Rattle.pr_sim.specs.Commands.{ForEachRun, Grows, MakesOne};
+ghost use Rattle.pr_sim.specs.Flowing.{AreFewWires, CanGoDown, FlowEndsSo, IsArrival, IsBegun, IsDownMade, IsOnTheWay, IsUnderWay, MovesOn, StopsByWires, StopsSo, TurnsEnd};
+ghost use Rattle.pr_sim.specs.Running.{HasAttached, IsKept};
+ghost use Rattle.pr_story.specs.History.{WasSent};
+ghost use Rattle.pr_story.specs.Scripts.{events_of};
+ghost use Rattle.pr_wire.specs.Messages.{IsMessage};
+ghost use Rattle.std.specs.Prelude.{◌≡◌, ◌<◌, ◌+◌, ℕ, None, Some, length};
+
+use crate::engine::{CALLER, Engine};
+use crate::slots::{give, route, take};
+use pr_flow::{Carried, FlowEnd, Stop, carry};
+use pr_inval::{Msg, NodeFault, Step, Taken};
+use pr_story::Cause;
+use pr_wires::{Wire, Wires};
+
+impl Engine {
+    /// Makes so many turns of an attached stream over a wire that is connected for them. There are fewer only where one
+    /// of them is stale, or the flow goes down; where no wire is given it goes down at once.
+    pub fn flow<W: Wires>(
+        &mut self,
+        stream: u32,
+        turns: u64,
+        wires: &mut W,
+    ) -> Result<Stop, NodeFault>
+        requires kept { IsKept self.old }
+        requires stream { stream < length self.old.sessions.items }
+        requires attached { HasAttached self.old stream }
+        requires few { AreFewWires (W.made wires.old) }
+        ensures flowed { ForEachRun self.old (λ d attached h. FlowEndsSo stream turns d attached h self.new result) }
+        ensures wires { StopsByWires W.faults W.made W.out W.sound wires.old wires.new result }
+    {
+        let ends = route(&self.routes, stream);
+        match wires.connect(ends.source, ends.destination) {
+            Err(_) => {
+                self.go_down(stream, Cause::Failed)?;
+                Ok(Stop::Went)
+            }
+            Ok(mut wire) => {
+                let end = self.flow_over(stream, turns, &mut wire);
+                wires.close(wire);
+                Ok(stop_of(stream, end?))
+            }
+        }
+    }
+
+    // Makes so many turns over a wire, fewer where one of them ends the flow.
+    fn flow_over<W: Wire>(
+        &mut self,
+        stream: u32,
+        turns: u64,
+        wire: &mut W,
+    ) -> Result<FlowEnd, NodeFault>
+        requires kept { IsKept self.old }
+        requires stream { stream < length self.old.sessions.items }
+        requires attached { HasAttached self.old stream }
+        requires under { (W.state wire.old).under ≡ 0 }
+        ensures flowed { ForEachRun self.old (λ d attached h. Grows (λ end es. TurnsEnd stream None turns 0 end (events_of es)) (λ es. IsBegun stream None turns (events_of es)) d attached h self.new result) }
+        ensures wire { EndsByWire (W.state wire.old) (W.state wire.new) result }
+    {
+        let mut left = turns;
+        while left > 0 {
+            match self.flow_turn(stream, wire)? {
+                FlowEnd::Done => {}
+                end => return Ok(end),
+            }
+            left -= 1;
+        }
+        Ok(FlowEnd::Done)
+    }
+
+    // Makes one turn over a wire.
+    fn flow_turn<W: Wire>(&mut self, stream: u32, wire: &mut W) -> Result<FlowEnd, NodeFault>
+        requires kept { IsKept self.old }
+        requires stream { stream < length self.old.sessions.items }
+        requires attached { HasAttached self.old stream }
+        requires under { (W.state wire.old).under ≡ 0 }
+        ensures flowed { ForEachRun self.old (λ d attached h. Grows (λ end es. (left : ℕ) → TurnsEnd stream None (left + 1) left end (events_of es)) (λ es. (left : ℕ) → IsBegun stream None (left + 1) (events_of es)) d attached h self.new result) }
+        ensures wire { MovesOn (W.state wire.old) (W.state wire.new) result }
+    {
+        match self.turn(stream)? {
+            Step::Idle => Ok(FlowEnd::Done),
+            Step::Stale { .. } => Ok(FlowEnd::Stale),
+            Step::Sent(msg) => self.cross(stream, &msg, wire),
+        }
+    }
+
+    // Brings a message that was sent to its destination, over a wire.
+    fn cross<W: Wire>(&mut self, stream: u32, msg: &Msg, wire: &mut W) -> Result<FlowEnd, NodeFault>
+        requires kept { IsUnderWay self.old stream msg.now }
+        requires stream { stream < length self.old.sessions.items }
+        requires message { IsMessage msg.now }
+        requires under { (W.state wire.old).under ≡ 0 }
+        ensures flowed { ForEachRun self.old (λ d attached h. IsOnTheWay h stream msg.now → Grows (λ end es. (left : ℕ) → TurnsEnd stream (Some msg.now) left left end (events_of es)) (λ es. (left : ℕ) → IsBegun stream (Some msg.now) left (events_of es)) d attached h self.new result) }
+        ensures wire { MovesOn (W.state wire.old) (W.state wire.new) result }
+    {
+        match carry(self.alloc, msg, wire)? {
+            Carried::Whole(msg) => self.arrive(stream, msg),
+            Carried::Cut(cause) => {
+                self.go_down(stream, cause)?;
+                Ok(FlowEnd::Down(cause))
+            }
+            Carried::Lied { sent, got } => Ok(FlowEnd::Lied {
+                number: msg.number,
+                sent,
+                got,
+            }),
+        }
+    }
+
+    // Takes a message that came over a wire; behind a gap the flow goes down.
+    fn arrive(&mut self, stream: u32, msg: Msg) -> Result<FlowEnd, NodeFault>
+        requires kept { IsUnderWay self.old stream msg }
+        requires stream { stream < length self.old.sessions.items }
+        requires message { IsMessage msg }
+        ensures flowed { ForEachRun self.old (λ d attached h. IsOnTheWay h stream msg → Grows (λ end es. (left : ℕ) → TurnsEnd stream (Some msg) left left end (events_of es)) (λ es. (left : ℕ) → IsBegun stream (Some msg) left (events_of es)) d attached h self.new result) }
+        ensures end { IsArrival result }
+    {
+        match self.take_in(stream, msg)? {
+            Taken::Accepted { .. } => Ok(FlowEnd::Done),
+            Taken::Gap { .. } => {
+                self.go_down(stream, Cause::Gap)?;
+                Ok(FlowEnd::Down(Cause::Gap))
+            }
+        }
+    }
+
+    // Notes at a stream's destination that its flow went down.
+    fn go_down(&mut self, stream: u32, cause: Cause) -> Result<(), NodeFault>
+        requires kept { IsKept self.old }
+        requires stream { stream < length self.old.sessions.items }
+        ensures { ForEachRun self.old (λ d attached h. CanGoDown d.plan h stream cause → MakesOne d attached h (IsDownMade stream cause) self.new result) }
+    {
+        let node = route(&self.routes, stream).destination;
+        self.history.reserve(1)?;
+        let mut at = take(&mut self.nodes, node);
+        let mut session = take(&mut self.sessions, stream);
+        let place = at.journal().len();
+        let answer = at.down(CALLER, &mut session, cause);
+        give(&mut self.sessions, stream, session);
+        give(&mut self.nodes, node, at);
+        answer?;
+        self.history.push((node, place));
+        Ok(())
+    }
+}
+
+// What a step answers of a flow that ended so.
+fn stop_of(stream: u32, end: FlowEnd) -> Stop
+    ensures { StopsSo stream end result }
+{
+    match end {
+        FlowEnd::Lied { number, sent, got } => Stop::Lied {
+            stream,
+            number,
+            sent,
+            got,
+        },
+        _ => Stop::Went,
+    }
+}
