@@ -1,10 +1,9 @@
 -- The target is one or the other set of names.
-use Rattle.std.proofs.Common.{◌≡◌, ℕ, ◌<◌, ◌≤◌, ◌⊎◌, List, Bool, true, false, refl, sym, ap, ◌∙◌, subst, arith, inl, inr, length}
+use Rattle.std.proofs.Common.{◌≡◌, ℕ, ◌<◌, ◌≤◌, ◌⊎◌, List, Bool, true, false, refl, sym, ap, ◌∙◌, subst, inl, inr, length}
 use Rattle.std.specs.Prelude.{◌||◌, ◌&&◌, not, IsTrue, IfOk, Result, Ok, Err}
-use Rattle.std.proofs.lemmas.Bool.{false≢true}
 use Rattle.pr_names.specs.Name.{IsName}
 use Rattle.pr_names.specs.Span.{Span}
-use Rattle.pr_sets.specs.Spans.{IsComplement, IsIntersection, IsSet, IsSetOf, IsUnion, has}
+use Rattle.pr_sets.specs.Spans.{IsComplement, IsIntersection, IsSetOf, IsUnion, has}
 use Rattle.pr_sets.proofs.Same.{same_list}
 use Rattle.pr_inval.specs.Targets.{IsTargetFor}
 

@@ -1,7 +1,7 @@
 -- The grammar of messages, by their values.
-use Rattle.std.specs.Prelude.{◌≡◌, ◌≤◌, ℕ, Bool, false, List, [], ◌∷◌, length, Option, Some, None, IsTrue}
+use Rattle.std.specs.Prelude.{◌≡◌, ◌≤◌, ℕ, Bool, false, List, [], ◌∷◌, length, IsTrue}
 use Rattle.std.specs.List.{AllByRecursion}
-use Rattle.pr_stamps.specs.Point.{Point, IsStamp, Before}
+use Rattle.pr_stamps.specs.Point.{Point, IsStamp, Before, IsPrev}
 use Rattle.pr_stamps.specs.declared.mark.Mark.{Mark}
 use Rattle.pr_vectors.specs.Vector.{IsVector, Le, Covers, Between}
 use Rattle.pr_names.specs.Name.{IsName}
@@ -21,11 +21,6 @@ Precedes r x (y ∷ ys) = r x y
 abbrev pub AreInOrder : {A : Type 0} → (A → A → Type 0) → List A → Type 0
 AreInOrder r [] = Unit {0}
 AreInOrder r (x ∷ xs) = Precedes r x xs × AreInOrder r xs
-
--- a stamp before this one, or none
-abbrev pub IsPrev : Option Point → Point → Type 0
-IsPrev None p = Unit {0}
-IsPrev (Some q) p = IsStamp q × Before q p
 
 -- a write between two vectors
 pub record IsWrite (from to : List ℕ) (w : WriteRec) : Type 0 where

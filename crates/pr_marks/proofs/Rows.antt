@@ -18,7 +18,7 @@ use Rattle.pr_names.specs.Order.{name_lt}
 use Rattle.pr_names.proofs.Places.{lt_cmp}
 use Rattle.pr_stamps.specs.declared.mark.Mark.{Mark}
 use Rattle.pr_vectors.specs.Vector.{join_of}
-use Rattle.pr_marks.specs.declared.newest.Newest.{Newest}
+use Rattle.pr_stamps.specs.declared.newest.Newest.{Newest}
 use Rattle.pr_marks.specs.Row.{Kept, above_floor, is_covered, with_mark}
 use Rattle.pr_marks.specs.Table.{Table, IsForgotten, IsRaised, IsMarked, marks_in, raised_to, row_of}
 

@@ -6,8 +6,9 @@ use Rattle.std.specs.Str.{bytes_eq}
 use Rattle.pr_stamps.specs.declared.mark.Mark.{Mark}
 use Rattle.pr_vectors.specs.Vector.{join_of}
 use Rattle.pr_names.specs.Order.{name_lt}
-use Rattle.pr_marks.specs.declared.newest.Newest.{Newest}
-use Rattle.pr_marks.specs.Row.{Kept, above_floor, is_covered, later, with_mark}
+use Rattle.pr_stamps.specs.declared.newest.Newest.{Newest}
+use Rattle.pr_marks.specs.Row.{Kept, above_floor, is_covered, with_mark}
+use Rattle.pr_stamps.specs.Marks.{later}
 
 -- the names with what is kept of each, the floor, and whether a call was refused memory
 pub record Table : Type 0 where

@@ -4,7 +4,7 @@ use Rattle.std.specs.Prelude.{Bool, Option, None, Some, All, AllPairs, Contains}
 use Rattle.std.specs.List.{AllByRecursion}
 use Rattle.std.proofs.lemmas.Bool.Decides.{nat_tests}
 use Rattle.std.proofs.lemmas.List.Elements.{All-contains, All-from_recursion}
-use Rattle.pr_stamps.specs.Point.{Point, Before, IsStamp}
+use Rattle.pr_stamps.specs.Point.{Point, Before, IsStamp, IsPrev}
 use Rattle.pr_stamps.specs.declared.mark.Mark.{Mark}
 use Rattle.pr_names.specs.Span.{Span}
 use Rattle.pr_sets.specs.Spans.{has}
@@ -30,7 +30,7 @@ use Rattle.pr_story.specs.Turns.{IsTurn, SendTurn, IsSnapshot, IsSnapshotRow}
 use Rattle.pr_story.proofs.Basics.{clock_zero}
 use Rattle.pr_story.proofs.Known.{known_told, held_how}
 use Rattle.pr_story.proofs.Naming.{TellsMark, WasToldMark, known_mark_told}
-use Rattle.pr_inval.specs.Messages.{AreInOrder, IsCheckpoint, IsEarlierMark, IsEarlierRow, IsKind, IsMark as IsMarkOfRow, IsMessage, IsPrev, IsRow}
+use Rattle.pr_inval.specs.Messages.{AreInOrder, IsCheckpoint, IsEarlierMark, IsEarlierRow, IsKind, IsMark as IsMarkOfRow, IsMessage, IsRow}
 use Rattle.pr_node.specs.Grammar.{HasBytes, IsSpelled, IsSpelledEvent, IsStepSpelled}
 use Rattle.pr_node.specs.Ties.{IsMarkInRange}
 use Rattle.pr_node.proofs.Clocks.{vector_grows}

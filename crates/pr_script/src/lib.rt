@@ -34,7 +34,7 @@ mod want;
 mod word;
 
 pub use command::Command;
-pub use decl::{Bytes, Decl, Decls};
+pub use decl::{Decl, Decls};
 pub use fault::ScriptFault;
 pub use kind::Kind;
 pub use labels::{is_kind, label_at, label_of};
@@ -42,6 +42,7 @@ pub use law::{
     labels_tell_declarations_apart, printed_scripts_read_back, scripts_have_one_meaning,
     sets_share_a_name_where_intervals_overlap,
 };
+pub use pr_stamps::Bytes;
 pub use printer::{print, print_decls};
 pub use reader::{Reader, read};
 pub use script::Script;

@@ -6,7 +6,7 @@ use Rattle.std.specs.Option.{is_some, option_map}
 use Rattle.std.specs.Str.{bytes_eq}
 use Rattle.std.proofs.lemmas.Slice.Eq.{bytes_eq-Decides}
 use Rattle.pr_names.specs.Order.{name_lt}
-use Rattle.pr_marks.specs.declared.newest.Newest.{Newest}
+use Rattle.pr_stamps.specs.declared.newest.Newest.{Newest}
 use Rattle.pr_marks.specs.Row.{Kept}
 use Rattle.pr_marks.specs.Table.{Table, is_after, names_of, newest_of}
 use Rattle.pr_snap.proofs.Choice.{by_test}

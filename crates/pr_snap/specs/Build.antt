@@ -3,7 +3,7 @@ use Rattle.std.specs.Prelude.{◌≡◌, ◌≤◌, ◌++◌, ℕ, List, [], ◌
 use Rattle.pr_names.specs.Span.{Span}
 use Rattle.pr_sets.specs.Spans.{IsAllBut, has}
 use Rattle.pr_gaps.specs.Gaps.{Told, IsLeastUntold, set_at}
-use Rattle.pr_marks.specs.declared.newest.Newest.{Newest}
+use Rattle.pr_stamps.specs.declared.newest.Newest.{Newest}
 use Rattle.pr_marks.specs.Table.{Table, NamesRise, marks_of, names_of, newest_of}
 use Rattle.pr_inval.specs.declared.row.Row.{Row}
 use Rattle.pr_inval.specs.declared.kind.Kind.{Kind}

@@ -4,7 +4,7 @@ use Rattle.std.specs.Prelude.{not, nat_le, ◌&&◌, flat_map}
 use Rattle.std.specs.List.{AllByRecursion}
 use Rattle.std.proofs.lemmas.Bool.{and_parts, and_from, leb-true, le-leb, not-true, not_from_false, false_from_ne_true}
 use Rattle.std.proofs.lemmas.List.{append-nil}
-use Rattle.pr_stamps.specs.Point.{Point, IsStamp}
+use Rattle.pr_stamps.specs.Point.{Point, IsStamp, is_before}
 use Rattle.pr_stamps.specs.declared.mark.Mark.{Mark}
 use Rattle.pr_vectors.specs.Vector.{clock_of}
 use Rattle.pr_names.specs.Span.{Span, IsSpan}
@@ -15,7 +15,7 @@ use Rattle.pr_wire.specs.declared.format.Format.{Format}
 use Rattle.pr_wire.specs.Spelling.{eight, gone_text, list_text, mark_text, name_text, row_text, span_text, stamp_text}
 use Rattle.pr_inval.specs.Messages.{AreInOrder, IsEarlierMark, IsEarlierRow, IsMark, IsRow}
 use Rattle.pr_wire.specs.Messages.{HasFewMarks}
-use Rattle.pr_wire.specs.Reading.{◌>>=◌, eight_at, given, gone_at, is_before, is_between, is_known, items_at, known_mark_at, last_before, list_at, mark_at, mark_before, name_at, row_at, row_before, span_at, stamp_at, target_at}
+use Rattle.pr_wire.specs.Reading.{◌>>=◌, eight_at, given, gone_at, is_between, is_known, items_at, known_mark_at, last_before, list_at, mark_at, mark_before, name_at, row_at, row_before, span_at, stamp_at, target_at}
 use Rattle.pr_wire.proofs.Fields.{IsBytes, IsField, Read, bind_some, eight_field, given_some, glue, some_is}
 use Rattle.pr_wire.proofs.NameFields.{name_field, span_field}
 use Rattle.pr_wire.proofs.StampFields.{IsGoneIn, before_true, between_true, gone_field, mark_field, stamp_field, true_before, true_between}

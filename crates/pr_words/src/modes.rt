@@ -8,7 +8,7 @@ ghost use Rattle.std.specs.Prelude.{◌≡◌, None, if◌then◌else◌};
 
 use crate::WordsFault;
 use crate::given::Given;
-use crate::job::{Bytes, Job};
+use crate::{Bytes, Job};
 use crate::mode::Mode;
 use crate::number::number_within;
 use pr_stamps::Seq;
