@@ -1,18 +1,14 @@
 -- What is kept of a name.
-use Rattle.std.specs.Prelude.{ℕ, Bool, not, List, [], ◌∷◌, nat_le, cond, filter, AllPairs, IsTrue}
-use Rattle.pr_stamps.specs.Point.{Point, is_before}
+use Rattle.std.specs.Prelude.{ℕ, not, List, [], ◌∷◌, cond, filter, AllPairs, IsTrue}
+use Rattle.pr_stamps.specs.Point.{is_before}
 use Rattle.pr_stamps.specs.declared.mark.Mark.{Mark}
-use Rattle.pr_vectors.specs.Vector.{clock_of}
+use Rattle.pr_vectors.specs.Vector.{is_covered}
 use Rattle.pr_stamps.specs.declared.newest.Newest.{Newest}
 
 -- the newest known stamp, and the marks in the order of their stamps
 pub record Kept : Type 0 where
   pub newest : Newest
   pub marks : List Mark
-
--- the vector covers the stamp
-abbrev pub is_covered : List ℕ → Point → Bool
-is_covered v s = nat_le s.clock (clock_of v s.node)
 
 -- each stamp comes before all later ones
 abbrev pub Rises : List Mark → Type 0

@@ -1,5 +1,6 @@
 // What is kept of a name.
-ghost use Rattle.pr_marks.specs.Row.{Rises, above_floor, is_covered, with_mark};
+ghost use Rattle.pr_marks.specs.Row.{Rises, above_floor, with_mark};
+ghost use Rattle.pr_vectors.specs.Vector.{is_covered};
 ghost use Rattle.pr_stamps.specs.Marks.{later};
 ghost use Rattle.pr_stamps.specs.Point.{is_before};
 ghost use Rattle.pr_stamps.specs.declared.mark.Mark.{Mark};
@@ -80,7 +81,7 @@ impl Row {
         ensures newest { self.new.newest ≡ self.old.newest }
         ensures marks { self.new.marks ≡ above_floor floor.now self.old.marks }
     {
-        self.marks.retain(|mark| !is_covered(floor, &mark.stamp));
+        self.marks.retain(|mark| !floor.covers(&mark.stamp));
     }
 }
 
@@ -104,10 +105,4 @@ fn stands_at(marks: &[Mark], at: usize, stamp: &Stamp) -> bool
     ensures not_here { result ≡ false → (d : Mark) → at < length marks.now → ¬ ((slice_index_or marks.now at d).stamp ≡ stamp.now) }
 {
     at < marks.len() && marks[at].stamp == *stamp
-}
-
-pub fn is_covered(floor: &Vector, stamp: &Stamp) -> bool
-    ensures { result ≡ is_covered floor.now stamp.now }
-{
-    stamp.clock() <= floor.at(stamp.node())
 }

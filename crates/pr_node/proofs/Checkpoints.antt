@@ -9,14 +9,14 @@ use Rattle.std.proofs.lemmas.List.Kept.{AllPairs-filter}
 use Rattle.pr_stamps.specs.Point.{Point, Before, IsStamp, is_before}
 use Rattle.pr_stamps.specs.declared.mark.Mark.{Mark}
 use Rattle.pr_names.specs.Span.{Span}
-use Rattle.pr_vectors.specs.Vector.{clock_of, join_of, IsVector}
+use Rattle.pr_vectors.specs.Vector.{clock_of, join_of, IsVector, is_covered}
 use Rattle.pr_vectors.proofs.Vectors.{clock_of-vector_of}
 use Rattle.pr_inval.specs.declared.kind.Kind.{Kind}
 use Rattle.pr_inval.specs.declared.kind.Kind.TheVariants.{Checkpoint}
 use Rattle.pr_inval.specs.declared.msg.Msg.{Msg}
 use Rattle.pr_inval.specs.declared.row.Row.{Row}
 use Rattle.pr_stamps.specs.declared.newest.Newest.{Newest}
-use Rattle.pr_marks.specs.Row.{is_covered, Rises, with_mark, above_floor}
+use Rattle.pr_marks.specs.Row.{Rises, with_mark, above_floor}
 use Rattle.pr_marks.specs.Table.{Table, newest_of, marks_of, raised_to}
 use Rattle.pr_marks.proofs.Placed.{rises_with}
 use Rattle.pr_snap.specs.Apply.{newest_by, newest_after, newest_among, marks_by, marks_among}

@@ -6,13 +6,14 @@ use Rattle.pr_stamps.specs.Point.{Point}
 use Rattle.pr_names.specs.Span.{Span}
 use Rattle.pr_sets.specs.Spans.{has}
 use Rattle.pr_vectors.specs.Vector.{clock_of, Covers}
-use Rattle.pr_gaps.specs.Gaps.{Told, IsTold as IsToldIn, IsLeastUntold, set_at, set_of as set_of_gaps, first_with as first_in}
+use Rattle.pr_gaps.specs.Gaps.{Told, IsTold as IsToldIn, IsLeastUntold, set_at}
+use Rattle.pr_sets.specs.Sets.{set_of as set_of_gaps, first_with as first_in, first_with, set_of}
 use Rattle.pr_bodies.specs.Bodies.{Held, held}
 use Rattle.pr_stamps.specs.declared.newest.Newest.{Newest}
 use Rattle.pr_marks.specs.Table.{Table, newest_of}
 use Rattle.pr_story.specs.declared.entry.Entry.{Entry}
 use Rattle.pr_story.specs.History.{current_clock, current_vector}
-use Rattle.pr_story.specs.Told.{IsTold, IsPrecise, IsUntold, first_with, set_of}
+use Rattle.pr_story.specs.Told.{IsTold, IsPrecise, IsUntold}
 use Rattle.pr_story.specs.Knowledge.{IsNewestKnown, KnowsGone, held_body}
 use Rattle.pr_story.specs.Search.{IsNewestOf}
 use Rattle.pr_node.specs.Ties.{IsGapsOf, IsBodiesOf, IsMarksOf}

@@ -4,11 +4,11 @@ use Rattle.std.specs.Prelude.{All, not, IsTrue, Option, Some, None}
 use Rattle.std.proofs.lemmas.List.Kept.{AllPairs-filter}
 use Rattle.pr_stamps.specs.Point.{Point, is_before}
 use Rattle.pr_stamps.specs.declared.mark.Mark.{Mark}
-use Rattle.pr_vectors.specs.Vector.{clock_of, Covers, join_of, IsVector}
+use Rattle.pr_vectors.specs.Vector.{clock_of, Covers, join_of, IsVector, is_covered}
 use Rattle.pr_vectors.proofs.Vectors.{clock_of-vector_of}
 use Rattle.pr_log.specs.Log.{IsCut}
 use Rattle.pr_bodies.specs.Bodies.{IsDroppedAll}
-use Rattle.pr_marks.specs.Row.{is_covered, Rises, above_floor}
+use Rattle.pr_marks.specs.Row.{Rises, above_floor}
 use Rattle.pr_marks.specs.Table.{Table, newest_of, marks_of, IsForgotten}
 use Rattle.pr_story.specs.declared.entry.Entry.{Entry}
 use Rattle.pr_story.specs.declared.event.Event.TheVariants.{Cut, Dropped}

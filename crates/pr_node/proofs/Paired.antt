@@ -6,8 +6,8 @@ use Rattle.std.proofs.lemmas.Bool.Decides.{nat_tests}
 use Rattle.std.proofs.lemmas.List.Elements.{All-contains_itself}
 use Rattle.pr_stamps.specs.Point.{Point, Before, IsStamp, is_before}
 use Rattle.pr_stamps.specs.declared.mark.Mark.{Mark}
-use Rattle.pr_vectors.specs.Vector.{clock_of, Covers}
-use Rattle.pr_marks.specs.Row.{is_covered, Rises}
+use Rattle.pr_vectors.specs.Vector.{clock_of, Covers, is_covered}
+use Rattle.pr_marks.specs.Row.{Rises}
 use Rattle.pr_marks.specs.Table.{Table, marks_of}
 use Rattle.pr_marks.specs.Pairs.{pairs_with as with_in, pairs_of as of_in}
 use Rattle.pr_story.specs.declared.entry.Entry.{Entry}

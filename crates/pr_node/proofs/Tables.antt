@@ -6,10 +6,10 @@ use Rattle.std.proofs.lemmas.Slice.Eq.{bytes_eq-Decides}
 use Rattle.std.proofs.lemmas.Bool.Decides.{nat_tests}
 use Rattle.pr_stamps.specs.Point.{Point, is_before, is_this}
 use Rattle.pr_stamps.specs.declared.mark.Mark.{Mark}
-use Rattle.pr_vectors.specs.Vector.{join_of, zero_vector}
+use Rattle.pr_vectors.specs.Vector.{join_of, zero_vector, is_covered}
 use Rattle.pr_inval.specs.declared.write_rec.WriteRec.{WriteRec}
 use Rattle.pr_stamps.specs.declared.newest.Newest.{Newest}
-use Rattle.pr_marks.specs.Row.{is_covered, Rises, with_mark}
+use Rattle.pr_marks.specs.Row.{Rises, with_mark}
 use Rattle.pr_marks.specs.Table.{Table, newest_of, marks_of, raised_to, IsMarked}
 use Rattle.pr_marks.proofs.Placed.{rises_with}
 use Rattle.pr_story.specs.declared.entry.Entry.{Entry}

@@ -2,16 +2,17 @@
 use Rattle.std.specs.Prelude.{All, AllPairs, ℕ, List, ◌≡◌, ◌↔◌, ◌≤◌, ◌<◌, IsTrue, cond, Option, Some, None, length}
 use Rattle.pr_stamps.specs.Point.{Point, Before, IsStamp}
 use Rattle.pr_stamps.specs.declared.mark.Mark.{Mark}
+use Rattle.pr_sets.specs.Sets.{AreApart}
 use Rattle.pr_names.specs.Name.{IsName}
 use Rattle.pr_names.specs.Span.{Span}
 use Rattle.pr_sets.specs.Spans.{has, Meet}
-use Rattle.pr_vectors.specs.Vector.{Covers}
+use Rattle.pr_vectors.specs.Vector.{Covers, is_covered}
 use Rattle.pr_inval.specs.declared.write_rec.WriteRec.{WriteRec}
 use Rattle.pr_log.specs.Log.{Logged, is_lit, Knows as KnowsIn}
 use Rattle.pr_gaps.specs.Gaps.{Told, IsTold as IsToldIn, set_at}
 use Rattle.pr_bodies.specs.Bodies.{Held, held}
 use Rattle.pr_stamps.specs.declared.newest.Newest.{Newest}
-use Rattle.pr_marks.specs.Row.{Rises, is_covered}
+use Rattle.pr_marks.specs.Row.{Rises}
 use Rattle.pr_marks.specs.Table.{Table, newest_of, marks_of}
 use Rattle.pr_story.specs.declared.entry.Entry.{Entry}
 use Rattle.pr_story.specs.History.{current_vector}
@@ -29,10 +30,6 @@ pub record IsLogOf (n : ℕ) (j : List Entry) (m : Logged) : Type 0 where
   pub cut : m.cut ≡ cuts_of j
   pub lit : (o : List ℕ) (p : Point) → IsName o → ¬ Covers m.cut p → IsTrue (is_lit m o p) ↔ IsLit n j o p
   pub knows : (x : WriteRec) → ¬ Covers m.cut x.stamp → KnowsIn m x ↔ Knows j x
-
--- no two of the sets share a name
-abbrev pub AreApart : List (List Span) → Type 0
-AreApart sets = AllPairs (λ (a : List Span) (b : List Span). ¬ Meet (has a) (has b)) sets
 
 pub record IsGapsOf (n : ℕ) (j : List Entry) (g : Told) : Type 0 where
   pub own : g.node ≡ n

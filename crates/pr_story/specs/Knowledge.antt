@@ -17,7 +17,8 @@ use Rattle.pr_story.specs.declared.found.Found.TheVariants as found
 use Rattle.pr_names.specs.Span.{Span}
 use Rattle.pr_story.specs.declared.entry.Entry.{Entry}
 use Rattle.pr_story.specs.History.{NodeEntry, SomeEvent, WasWritten}
-use Rattle.pr_story.specs.Told.{set_of, IsPrecise, IsUntold}
+use Rattle.pr_story.specs.Told.{IsPrecise, IsUntold}
+use Rattle.pr_sets.specs.Sets.{set_of}
 
 -- ---- writes
 

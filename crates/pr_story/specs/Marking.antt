@@ -5,7 +5,7 @@ use Rattle.std.specs.Str.{bytes_eq}
 use Rattle.pr_stamps.specs.Marks.{is_conflict}
 use Rattle.pr_stamps.specs.Point.{Point, Before, is_before, is_this}
 use Rattle.pr_stamps.specs.declared.mark.Mark.{Mark}
-use Rattle.pr_names.specs.Order.{name_lt}
+use Rattle.pr_names.specs.Order.{NamesRise, name_lt}
 use Rattle.pr_names.specs.Span.{Span}
 use Rattle.pr_sets.specs.Spans.{has}
 use Rattle.pr_inval.specs.declared.row.Row.{Row}
@@ -60,9 +60,6 @@ pairs_of [] marks = []
 pairs_of (x ∷ xs) marks = pairs_with x marks ++ pairs_of xs marks
 
 -- ---- names in order
-
-abbrev pub NamesRise : List (List ℕ) → Type 0
-NamesRise names = AllPairs (λ (a : List ℕ) (b : List ℕ). IsTrue (name_lt a b)) names
 
 abbrev pub names_below : List (List ℕ) → List ℕ → List (List ℕ)
 names_below names n = filter (λ (o : List ℕ). name_lt o n) names

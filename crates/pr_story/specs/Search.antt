@@ -1,7 +1,7 @@
 -- What a search through a journal has found.
-use Rattle.std.specs.Prelude.{ℕ, Bool, List, ◌≡◌, ◌≢◌, ◌≤◌, ◌<◌, ◌+◌, ◌⊎◌, ◌↔◌, IsTrue, false, cond, Option, None, Some, Contains}
+use Rattle.std.specs.Prelude.{ℕ, Bool, List, ◌≡◌, ◌≢◌, ◌≤◌, ◌<◌, ◌⊎◌, ◌↔◌, IsTrue, false, cond, Option, None, Some, Contains}
 use Rattle.pr_stamps.specs.Point.{Point, Before, is_before}
-use Rattle.pr_vectors.specs.Vector.{clock_of, Covers}
+use Rattle.pr_vectors.specs.Vector.{Covers}
 use Rattle.pr_story.specs.declared.entry.Entry.{Entry}
 use Rattle.pr_names.specs.Span.{Span}
 use Rattle.pr_sets.specs.Spans.{has, IsSet, Meet}
@@ -34,13 +34,6 @@ IsFirstAt T v c n None = (m : ℕ) → m < n → Covers v (point c m) → T (poi
 IsFirstAt T v c n (Some p) =
     (p.clock ≡ c) × (p.node < n) × Covers v p × (¬ T p)
     × ((m : ℕ) → m < p.node → Covers v (point c m) → T (point c m))
-
--- the greatest clock of the node, at most the vector's, up to which each point is T
-abbrev pub IsRun : (Point → Type 0) → List ℕ → ℕ → ℕ → Type 0
-IsRun T v n most =
-    (most ≤ clock_of v n)
-    × ((c : ℕ) → 1 ≤ c → c ≤ most → T (point c n))
-    × (most < clock_of v n → ¬ T (point (most + 1) n))
 
 -- the least untold point, or none where the set is precise
 abbrev pub IsFirstUntold : ℕ → List Entry → List Span → Option Point → Type 0

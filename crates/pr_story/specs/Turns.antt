@@ -20,7 +20,8 @@ use Rattle.pr_inval.specs.Standing.{Standing}
 use Rattle.pr_inval.specs.Targets.{IsTargetFor}
 use Rattle.pr_story.specs.declared.entry.Entry.{Entry}
 use Rattle.pr_story.specs.History.{Plan, NodeEntry, SomeEvent, entries, current_vector}
-use Rattle.pr_story.specs.Told.{set_of, IsPrecise, IsDarkBetween}
+use Rattle.pr_story.specs.Told.{IsPrecise, IsDarkBetween}
+use Rattle.pr_sets.specs.Sets.{set_of}
 use Rattle.pr_story.specs.Knowledge.{Knows, WasNamed, IsNewestKnown, KnowsGone, held_body, cuts_of, floor_of, IsMark}
 
 -- ---- where a stream stands
