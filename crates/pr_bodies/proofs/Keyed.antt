@@ -12,9 +12,9 @@ use Rattle.std.proofs.lemmas.Map.Lookups.{exact_bytes}
 use Rattle.std.proofs.lemmas.Cmp.{nat_list_cmp_total, tied_itself}
 use Rattle.std.proofs.lemmas.Bool.Decides.{nat_tests}
 use Rattle.std.proofs.lemmas.Slice.Eq.{bytes_eq-Decides}
-use Rattle.pr_stamps.specs.Point.{Point}
+use Rattle.pr_stamps.specs.Point.{Point, is_before}
 use Rattle.pr_bodies.specs.declared.key.Key.{Key}
-use Rattle.pr_bodies.specs.Bodies.{is_key, is_before}
+use Rattle.pr_bodies.specs.Bodies.{is_key}
 use Rattle.pr_bodies.specs.Keys.{key_at, key_cmp}
 
 eq_then : (x y : Ordering) → is_eq (ordering_then x y) ≡ (is_eq x && is_eq y)

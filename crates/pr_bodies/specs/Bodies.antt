@@ -1,22 +1,14 @@
 -- The bodies that are held, by name and stamp.
-use Rattle.std.specs.Prelude.{◌≡◌, ℕ, Bool, List, Option, None, Some, nat_eq, nat_lt, cond, ◌&&◌, ◌||◌}
+use Rattle.std.specs.Prelude.{◌≡◌, ℕ, Bool, List, Option, None, Some, nat_eq, cond, ◌&&◌}
 use Rattle.std.specs.Map.{lookup}
 use Rattle.std.specs.Str.{bytes_eq}
-use Rattle.pr_stamps.specs.Point.{Point}
+use Rattle.pr_stamps.specs.Point.{Point, is_before, is_this}
 use Rattle.pr_bodies.specs.declared.key.Key.{Key}
 
 -- the bodies with what they are kept under, and whether a call was refused memory
 pub record Held : Type 0 where
   pub bodies : List (Key × List ℕ)
   pub spent : Bool
-
--- the name and the stamp are these
-abbrev pub is_this : List ℕ → Point → List ℕ → Point → Bool
-is_this name stamp o t = bytes_eq name o && (nat_eq stamp.clock t.clock && nat_eq stamp.node t.node)
-
--- the first stamp comes before the second
-abbrev pub is_before : Point → Point → Bool
-is_before s t = nat_lt s.clock t.clock || (nat_eq s.clock t.clock && nat_lt s.node t.node)
 
 -- the key is that of this name and stamp
 abbrev pub is_key : List ℕ → Point → Key → Bool

@@ -1,8 +1,7 @@
 // What stands next to a key in the map of bodies.
 ghost use Rattle.pr_bodies.specs.Keys.{key_at, key_cmp};
-ghost use Rattle.pr_bodies.specs.Bodies.{is_before};
 ghost use Rattle.pr_bodies.specs.declared.key.Key.{Key};
-ghost use Rattle.pr_stamps.specs.Point.{Point};
+ghost use Rattle.pr_stamps.specs.Point.{Point, is_before};
 ghost use Rattle.std.specs.BTreeMap.{get};
 ghost use Rattle.std.specs.BTreeMap.Range.{IsLeBy, IsLtBy};
 ghost use Rattle.std.specs.Ordering.{is_lt};

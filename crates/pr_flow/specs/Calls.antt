@@ -13,7 +13,7 @@ use Rattle.pr_story.specs.declared.event.Event.TheVariants.{Sent, Accepted, Gapp
 use Rattle.pr_story.specs.Commands.{IsNoCheckpoint}
 use Rattle.pr_story.specs.Sessions.{HasGoneOn}
 use Rattle.pr_story.specs.Turns.{event_of}
-use Rattle.pr_wire.specs.Messages.{IsMessage}
+use Rattle.pr_inval.specs.Messages.{IsMessage}
 
 -- a call: a turn with the session before and after it, a message to accept, or a down with its cause and the session
 pub data Call : Type 0 where

@@ -1,6 +1,6 @@
 // A message goes over a wire.
 ghost use Rattle.pr_flow.specs.Moving.{IsCarried, IsLie, IsNoLieOrCut};
-ghost use Rattle.pr_wire.specs.Messages.{IsMessage};
+ghost use Rattle.pr_inval.specs.Messages.{IsMessage};
 ghost use Rattle.pr_wire.specs.Spelling.{spelling};
 ghost use Rattle.pr_wire.specs.declared.format.Format.{Format};
 ghost use Rattle.std.specs.Prelude.{◌≡◌, ◌≤◌, ◌<◌, ◌+◌, ◌++◌, IsTrue, IfOk, length, min, take};

@@ -4,7 +4,7 @@ ghost use Rattle.pr_flow.specs.Ending.{EndsByWire, TurnEnds};
 ghost use Rattle.pr_flow.specs.Flows.{Flows, Sides, TurnFlows};
 ghost use Rattle.pr_flow.specs.Taking.{GoesDown, Takes};
 ghost use Rattle.pr_inval.specs.Standing.{means};
-ghost use Rattle.pr_wire.specs.Messages.{IsMessage};
+ghost use Rattle.pr_inval.specs.Messages.{IsMessage};
 ghost use Rattle.std.specs.Prelude.{◌≡◌, ◌≤◌, ℕ, IsTrue};
 
 use crate::carrying::{Carried, carry};

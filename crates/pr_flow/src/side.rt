@@ -3,7 +3,7 @@ ghost use Rattle.pr_flow.specs.Calls.{AcceptMakes, Call, Accepting, DownMakes, E
 ghost use Rattle.pr_inval.specs.declared.node_fault.NodeFault.{NodeFault};
 ghost use Rattle.pr_inval.specs.Standing.{means};
 ghost use Rattle.pr_story.specs.declared.entry.Entry.{Entry};
-ghost use Rattle.pr_wire.specs.Messages.{IsMessage};
+ghost use Rattle.pr_inval.specs.Messages.{IsMessage};
 ghost use Rattle.std.specs.Prelude.{IsTrue, List, Option};
 
 use pr_inval::{Msg, NodeFault, Session, Step, Taken};

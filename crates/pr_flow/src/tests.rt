@@ -1,7 +1,7 @@
 ghost use Rattle.pr_flow.specs.Calls.{HasStepped, IsSendable, entry_of};
 ghost use Rattle.pr_inval.specs.Standing.{means};
 ghost use Rattle.pr_story.specs.declared.event.Event.TheVariants as events;
-ghost use Rattle.pr_wire.specs.Messages.{IsMessage};
+ghost use Rattle.pr_inval.specs.Messages.{IsMessage};
 ghost use Rattle.std.specs.Prelude.{◌≡◌, ◌<◌, ◌≤◌, [], false, true, IfOk, IfSome, IsTrue, None, length};
 
 use crate::{FlowEnd, Side, flow};

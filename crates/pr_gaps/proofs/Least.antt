@@ -6,7 +6,8 @@ use Rattle.pr_stamps.specs.Point.{Point, Before, IsStamp}
 use Rattle.pr_vectors.specs.Vector.{IsVector, Covers, clock_of, raised, zero_vector}
 use Rattle.pr_vectors.proofs.Vectors.{clock_of-vector_of, is-vector_of}
 use Rattle.pr_gaps.specs.Rows.{HasPoint}
-use Rattle.pr_gaps.specs.Gaps.{IsToldIn, IsLeastOutside, IsNodeOutside, IsLesser, IsGreatestUpTo, Told, IsOwnTold}
+use Rattle.pr_gaps.specs.Gaps.{IsToldIn, IsLeastOutside, IsNodeOutside, IsLesser, Told, IsOwnTold}
+use Rattle.pr_vectors.specs.UpTo.{IsLastClock}
 
 below_or : (a n : ℕ) → a < n + 1 → (a < n) ⊎ (a ≡ n)
 below_or a n lt = grind (arith, nat_tests)
@@ -84,7 +85,7 @@ least_more T v n (Some a) (Some b) r (lt, covers, out, least) (node, one, most, 
 
 -- ---- one node
 
-pub clock_min : (row : List (List (ℕ × ℕ))) (own n most run m : ℕ) (v : List ℕ) → m ≡ min run most → most ≡ clock_of v n → ¬ (n ≡ own) → ((c : ℕ) → 1 ≤ c → c ≤ run → HasPoint row (record { clock = c; node = n })) → ¬ HasPoint row (record { clock = run + 1; node = n }) → IsGreatestUpTo (IsToldIn own v row) v n m
+pub clock_min : (row : List (List (ℕ × ℕ))) (own n most run m : ℕ) (v : List ℕ) → m ≡ min run most → most ≡ clock_of v n → ¬ (n ≡ own) → ((c : ℕ) → 1 ≤ c → c ≤ run → HasPoint row (record { clock = c; node = n })) → ¬ HasPoint row (record { clock = run + 1; node = n }) → IsLastClock (IsToldIn own v row) v n m
 clock_min row own n most run m v is most_is other within end = (
   omega (arith, is, most_is),
   (λ c one le. inr (within c one (omega (arith, is)))),
@@ -97,18 +98,18 @@ clock_min row own n most run m v is most_is other within end = (
     is_run : (m run most : ℕ) → m ≡ min run most → m < most → m ≡ run
     is_run m run most is less = grind (arith, nat_tests)
 
-pub clock_own : (row : List (List (ℕ × ℕ))) (own n most : ℕ) (v : List ℕ) → most ≡ clock_of v n → n ≡ own → IsGreatestUpTo (IsToldIn own v row) v n most
+pub clock_own : (row : List (List (ℕ × ℕ))) (own n most : ℕ) (v : List ℕ) → most ≡ clock_of v n → n ≡ own → IsLastClock (IsToldIn own v row) v n most
 clock_own row own n most v is here = (
   omega (arith, is),
   (λ c one le. inl (here, (one, omega (arith, is)))),
   (λ less. absurd (omega (arith, is))),
 )
 
-pub node_some : (T : Point → Type 0) (v : List ℕ) (n clock : ℕ) (r : Option Point) → IsGreatestUpTo T v n clock → clock < clock_of v n → r ≡ Some (record { clock = clock + 1; node = n }) → IsNodeOutside T v n r
+pub node_some : (T : Point → Type 0) (v : List ℕ) (n clock : ℕ) (r : Option Point) → IsLastClock T v n clock → clock < clock_of v n → r ≡ Some (record { clock = clock + 1; node = n }) → IsNodeOutside T v n r
 node_some T v n clock r (le, within, end) less is =
     subst (IsNodeOutside T v n) (sym is) (refl, omega arith, omega arith, end less, λ c one lt. within c one (omega arith))
 
-pub node_none : (T : Point → Type 0) (v : List ℕ) (n clock : ℕ) → IsGreatestUpTo T v n clock → clock_of v n ≤ clock → IsNodeOutside T v n None
+pub node_none : (T : Point → Type 0) (v : List ℕ) (n clock : ℕ) → IsLastClock T v n clock → clock_of v n ≤ clock → IsNodeOutside T v n None
 node_none T v n clock (le, within, end) more c one most = within c one (omega arith)
 
 -- ---- a vector with a clock joined in
@@ -128,10 +129,10 @@ other_nat : (k n c z : ℕ) → ¬ (k ≡ n) → cond (nat_eq k n) (max z c) z �
 other_nat k n c z other = grind (arith, nat_tests)
 
 -- a node more is raised to its clock
-pub raised_more : (T : Point → Type 0) (v p : List ℕ) (n clock : ℕ) → n < 32 → IsGreatestUpTo T v n clock → ((w : ℕ) → w < n → IsGreatestUpTo T v w (clock_of p w)) → ((w : ℕ) → w < 32 → n ≤ w → clock_of p w ≡ 0) → (w : ℕ) → w < n + 1 → IsGreatestUpTo T v w (clock_of (raised p (record { clock = clock; node = n })) w)
+pub raised_more : (T : Point → Type 0) (v p : List ℕ) (n clock : ℕ) → n < 32 → IsLastClock T v n clock → ((w : ℕ) → w < n → IsLastClock T v w (clock_of p w)) → ((w : ℕ) → w < 32 → n ≤ w → clock_of p w ≡ 0) → (w : ℕ) → w < n + 1 → IsLastClock T v w (clock_of (raised p (record { clock = clock; node = n })) w)
 raised_more T v p n clock lt here done rest w less = elim (below_or w n less) [
-  | inl before ↦ subst (IsGreatestUpTo T v w) (sym (clock_of-vector_of _ w (omega arith) ∙ other_nat w n clock (clock_of p w) (λ e. omega (arith, e)))) (done w before)
-  | inr same ↦ subst (IsGreatestUpTo T v w) (sym (clock_of-vector_of _ w (omega (arith, same)) ∙ raised_nat w n clock (clock_of p w) (rest w (omega (arith, same)) (omega (arith, same))) same)) (subst (λ k. IsGreatestUpTo T v k clock) (sym same) here)
+  | inl before ↦ subst (IsLastClock T v w) (sym (clock_of-vector_of _ w (omega arith) ∙ other_nat w n clock (clock_of p w) (λ e. omega (arith, e)))) (done w before)
+  | inr same ↦ subst (IsLastClock T v w) (sym (clock_of-vector_of _ w (omega (arith, same)) ∙ raised_nat w n clock (clock_of p w) (rest w (omega (arith, same)) (omega (arith, same))) same)) (subst (λ k. IsLastClock T v k clock) (sym same) here)
 ]
 
 pub raised_rest : (p : List ℕ) (n clock : ℕ) → ((w : ℕ) → w < 32 → n ≤ w → clock_of p w ≡ 0) → (w : ℕ) → w < 32 → n + 1 ≤ w → clock_of (raised p (record { clock = clock; node = n })) w ≡ 0

@@ -1,10 +1,11 @@
 -- The told points of a node, by its sets.
-use Rattle.std.specs.Prelude.{◌≡◌, ◌⊎◌, ◌↔◌, ◌≤◌, ◌<◌, ◌+◌, ℕ, Bool, false, not, cond, zero, suc, List, [], ◌∷◌, Option, None, Some, length, slice_index_or}
-use Rattle.std.specs.List.{list_any}
+use Rattle.std.specs.Prelude.{◌≡◌, ◌⊎◌, ◌↔◌, ◌≤◌, ◌<◌, ℕ, Bool, false, zero, suc, List, [], ◌∷◌, Option, None, Some, length, slice_index_or}
 use Rattle.pr_stamps.specs.Point.{Point, Before}
 use Rattle.pr_names.specs.Span.{Span}
+use Rattle.pr_sets.specs.Sets.{rest_of}
 use Rattle.pr_sets.specs.Spans.{has, Meet}
 use Rattle.pr_vectors.specs.Vector.{clock_of, Covers, Between, join_of, raised, zero_vector}
+use Rattle.pr_vectors.specs.UpTo.{IsLastClock}
 use Rattle.pr_gaps.specs.Rows.{HasPoint}
 
 -- a node, its declared sets and the rest, its vector, by set and node the told clocks, and whether a call was refused
@@ -19,10 +20,6 @@ pub record Told : Type 0 where
 
 -- ---- the sets
 
--- the rest set: the names that are in none of these sets
-abbrev pub rest_of : List (List Span) → List ℕ → Bool
-rest_of sets o = not (list_any (λ set. has set o) sets)
-
 -- the set of this number; the last is the rest
 abbrev pub set_or : List (List Span) → (List ℕ → Bool) → ℕ → List ℕ → Bool
 set_or [] rest i = rest
@@ -31,15 +28,6 @@ set_or (set ∷ sets) rest (suc i) = set_or sets rest i
 
 abbrev pub set_at : List (List Span) → ℕ → List ℕ → Bool
 set_at sets i = set_or sets (rest_of sets) i
-
--- the first of these sets that has the name, or else the rest
-abbrev pub first_with : List (List Span) → (List ℕ → Bool) → List ℕ → List ℕ → Bool
-first_with [] rest o = rest
-first_with (set ∷ sets) rest o = cond (has set o) (has set) (first_with sets rest o)
-
--- the one of the sets that has the name
-abbrev pub set_of : List (List Span) → List ℕ → List ℕ → Bool
-set_of sets o = first_with sets (rest_of sets) o
 
 -- ---- the points
 
@@ -81,16 +69,9 @@ IsLeastOutside T v n (Some p) =
 abbrev pub IsLeastUntold : Told → ℕ → Option Point → Type 0
 IsLeastUntold t i r = IsLeastOutside (IsTold t i) t.vector 32 r
 
--- the greatest clock of the node, at most the vector's, up to which each point is T
-abbrev pub IsGreatestUpTo : (Point → Type 0) → List ℕ → ℕ → ℕ → Type 0
-IsGreatestUpTo T v n most =
-    (most ≤ clock_of v n)
-    × ((c : ℕ) → 1 ≤ c → c ≤ most → T (record { clock = c; node = n }))
-    × (most < clock_of v n → ¬ T (record { clock = most + 1; node = n }))
-
 -- per node the greatest covered clock up to which each point is told
 abbrev pub IsLastPrecise : Told → ℕ → List ℕ → Type 0
-IsLastPrecise t i v = (w : ℕ) → w < 32 → IsGreatestUpTo (IsTold t i) t.vector w (clock_of v w)
+IsLastPrecise t i v = (w : ℕ) → w < 32 → IsLastClock (IsTold t i) t.vector w (clock_of v w)
 
 -- a new list: only the rest and the sets are known
 pub record IsNew (t : Told) (node : ℕ) (sets : List (List Span)) : Type 0 where

@@ -1,5 +1,7 @@
 // The gap list of a node.
-ghost use Rattle.pr_gaps.specs.Gaps.{IsCovered, IsLastPrecise, IsLeastUntold, IsNew, IsOwnTold, IsTargeted, IsGreatestUpTo, IsLeastOutside, IsLesser, IsNodeOutside, IsToldIn, rest_of, set_at, set_of};
+ghost use Rattle.pr_gaps.specs.Gaps.{IsCovered, IsLastPrecise, IsLeastUntold, IsNew, IsOwnTold, IsTargeted, IsLeastOutside, IsLesser, IsNodeOutside, IsToldIn, set_at};
+ghost use Rattle.pr_vectors.specs.UpTo.{IsLastClock};
+ghost use Rattle.pr_sets.specs.Sets.{rest_of, set_of};
 ghost use Rattle.pr_gaps.specs.Rows.{HasPoint};
 ghost use Rattle.pr_stamps.specs.Point.{Point};
 ghost use Rattle.pr_names.specs.Name.{IsName};
@@ -31,7 +33,8 @@ pub struct Gaps {
 
 impl Model for Gaps {
     ghost use Rattle.std.specs.Prelude.{◌≡◌, ◌<◌, ◌+◌, ℕ, List, length};
-    ghost use Rattle.pr_gaps.specs.Gaps.{Told, rest_of};
+    ghost use Rattle.pr_gaps.specs.Gaps.{Told};
+    ghost use Rattle.pr_sets.specs.Sets.{rest_of};
     ghost use Rattle.pr_names.specs.Name.{IsName};
     ghost use Rattle.pr_sets.specs.Spans.{has};
 
@@ -197,7 +200,7 @@ fn untold(row: &Row, own: u32, node: u32, vector: &Vector) -> Option<Stamp>
 // The greatest covered clock of one node up to which each point was told.
 fn precise_clock(row: &Row, own: u32, node: u32, vector: &Vector) -> u64
     requires { node < 32 }
-    ensures value { IsGreatestUpTo (IsToldIn own vector.now row.now) vector.now node result }
+    ensures value { IsLastClock (IsToldIn own vector.now row.now) vector.now node result }
     ensures range { IsVector vector.now }
 {
     let most = vector.at(node);
@@ -209,7 +212,7 @@ fn precise_clock(row: &Row, own: u32, node: u32, vector: &Vector) -> u64
 }
 
 fn last_precise(row: &Row, own: u32, vector: &Vector) -> Vector
-    ensures value { (w : ℕ) → w < 32 → IsGreatestUpTo (IsToldIn own vector.now row.now) vector.now w (clock_of result w) }
+    ensures value { (w : ℕ) → w < 32 → IsLastClock (IsToldIn own vector.now row.now) vector.now w (clock_of result w) }
     ensures range { IsVector result }
 {
     let mut precise = Vector::zero();

@@ -1,23 +1,12 @@
 -- The target is one or the other set of names.
-use Rattle.std.proofs.Common.{◌≡◌, ℕ, ◌<◌, ◌≤◌, ◌⊎◌, List, Bool, true, false, refl, sym, ap, ◌∙◌, subst, arith, inl, inr, length}
+use Rattle.std.proofs.Common.{◌≡◌, ℕ, ◌<◌, ◌≤◌, ◌⊎◌, List, Bool, true, false, refl, sym, ap, ◌∙◌, subst, inl, inr, length}
 use Rattle.std.specs.Prelude.{◌||◌, ◌&&◌, not, IsTrue, IfOk, Result, Ok, Err}
-use Rattle.std.proofs.lemmas.Bool.{false≢true}
+use Rattle.pr_stamps.proofs.OneOf.{either, or_first, or_second}
 use Rattle.pr_names.specs.Name.{IsName}
 use Rattle.pr_names.specs.Span.{Span}
-use Rattle.pr_sets.specs.Spans.{IsComplement, IsIntersection, IsSet, IsSetOf, IsUnion, has}
+use Rattle.pr_sets.specs.Spans.{IsComplement, IsIntersection, IsSetOf, IsUnion, has}
 use Rattle.pr_sets.proofs.Same.{same_list}
 use Rattle.pr_inval.specs.Targets.{IsTargetFor}
-
-either : (p q : Bool) → (p || q) ≡ true → (p ≡ true) ⊎ (q ≡ true)
-either true q h = inl refl
-either false q h = inr h
-
-or_first : (p q : Bool) → p ≡ true → (p || q) ≡ true
-or_first p q h = rw h refl
-
-or_second : (p q : Bool) → q ≡ true → (p || q) ≡ true
-or_second true q h = refl
-or_second false q h = h
 
 -- the union has the names of both
 fine_is : (omitted dark fine : List Span) → IsUnion omitted dark fine → IsSetOf fine (λ o. IsTrue (has dark o) ⊎ IsTrue (has omitted o))

@@ -1,14 +1,13 @@
 -- What is merged is the same in any order, and covers what its parts cover.
-use Rattle.std.proofs.Common.{◌≡◌, ℕ, ◌<◌, ◌≤◌, ◌⊎◌, List, Bool, true, false, refl, sym, ap, ◌∙◌, subst, arith, inl, inr}
+use Rattle.std.proofs.Common.{◌≡◌, ℕ, ◌<◌, ◌≤◌, ◌⊎◌, List, Bool, true, false, refl, sym, ap, ◌∙◌, arith, inl, inr}
 use Rattle.std.specs.Prelude.{◌↔◌, ◌||◌, max, min}
 use Rattle.std.proofs.lemmas.Bool.Decides.{nat_tests}
-use Rattle.pr_names.specs.Name.{IsName}
 use Rattle.pr_names.specs.Span.{Span}
-use Rattle.pr_sets.specs.Spans.{IsUnion, has}
+use Rattle.pr_sets.specs.Spans.{has}
 use Rattle.pr_sets.proofs.Lists.{or_assoc}
 use Rattle.pr_sets.proofs.Same.{same_list}
 use Rattle.pr_stamps.specs.Point.{Point}
-use Rattle.pr_vectors.specs.Vector.{Between, Le, clock_of, join_of, meet_of}
+use Rattle.pr_vectors.specs.Vector.{clock_of, join_of, meet_of}
 use Rattle.pr_vectors.proofs.Vectors.{clock_of-vector_of, same_vector}
 use Rattle.pr_inval.specs.Merging.{AreAdjacent, CoversIt, IsMerged, Rises}
 use Rattle.pr_inval.specs.declared.imprecise.Imprecise.{Imprecise}

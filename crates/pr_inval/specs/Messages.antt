@@ -1,7 +1,7 @@
 -- The grammar of messages, by their values.
-use Rattle.std.specs.Prelude.{◌≡◌, ◌≤◌, ℕ, Bool, false, List, [], ◌∷◌, length, Option, Some, None, IsTrue}
+use Rattle.std.specs.Prelude.{◌≡◌, ◌≤◌, ℕ, Bool, false, List, [], ◌∷◌, length, IsTrue}
 use Rattle.std.specs.List.{AllByRecursion}
-use Rattle.pr_stamps.specs.Point.{Point, IsStamp, Before}
+use Rattle.pr_stamps.specs.Point.{Point, IsStamp, Before, IsPrev}
 use Rattle.pr_stamps.specs.declared.mark.Mark.{Mark}
 use Rattle.pr_vectors.specs.Vector.{IsVector, Le, Covers, Between}
 use Rattle.pr_names.specs.Name.{IsName}
@@ -18,14 +18,9 @@ abbrev pub Precedes : {A : Type 0} → (A → A → Type 0) → A → List A →
 Precedes r x [] = Unit {0}
 Precedes r x (y ∷ ys) = r x y
 
-abbrev pub AreInOrder : {A : Type 0} → (A → A → Type 0) → List A → Type 0
-AreInOrder r [] = Unit {0}
-AreInOrder r (x ∷ xs) = Precedes r x xs × AreInOrder r xs
-
--- a stamp before this one, or none
-abbrev pub IsPrev : Option Point → Point → Type 0
-IsPrev None p = Unit {0}
-IsPrev (Some q) p = IsStamp q × Before q p
+abbrev pub IsAscending : {A : Type 0} → (A → A → Type 0) → List A → Type 0
+IsAscending r [] = Unit {0}
+IsAscending r (x ∷ xs) = Precedes r x xs × IsAscending r xs
 
 -- a write between two vectors
 pub record IsWrite (from to : List ℕ) (w : WriteRec) : Type 0 where
@@ -54,14 +49,14 @@ pub record IsRow (floor to : List ℕ) (target : List ℕ → Bool) (r : Row) : 
   pub newest : IsStamp r.newest
   pub covered : Covers to r.newest
   pub each : AllByRecursion (IsMark floor to r.newest) r.marks
-  pub in_order : AreInOrder IsEarlierMark r.marks
+  pub in_order : IsAscending IsEarlierMark r.marks
 
 pub record IsCheckpoint (to : List ℕ) (target : List ℕ → Bool) (floor : List ℕ) (rows : List Row) : Type 0 where
   pub end_is : IsVector to
   pub floor_is : IsVector floor
   pub rises : Le floor to
   pub each : AllByRecursion (IsRow floor to target) rows
-  pub in_order : AreInOrder IsEarlierRow rows
+  pub in_order : IsAscending IsEarlierRow rows
 
 abbrev pub IsKind : Kind → Type 0
 IsKind (Precise from to write) = IsVector from × IsVector to × Le from to × IsWrite from to write

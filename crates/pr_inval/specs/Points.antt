@@ -1,6 +1,5 @@
 -- What a message covers. A point is a clock of a node; a write's point is its stamp.
-use Rattle.std.specs.Prelude.{◌≡◌, ℕ, List, [], Bool, true, false, nat_eq, ◌&&◌}
-use Rattle.std.specs.Str.{bytes_eq}
+use Rattle.std.specs.Prelude.{ℕ, List, [], Bool, true, false}
 use Rattle.pr_names.specs.Span.{Span}
 use Rattle.pr_inval.specs.declared.kind.Kind.{Kind}
 use Rattle.pr_inval.specs.declared.kind.Kind.TheVariants.{Precise, Imprecise, Checkpoint, Body}
@@ -35,7 +34,3 @@ is_invalidation (Precise from to write) = true
 is_invalidation (Imprecise from to target) = true
 is_invalidation (Checkpoint to target floor rows) = false
 is_invalidation (Body name stamp bytes) = false
-
--- a name and a stamp are these, so that they name this body
-abbrev pub is_this : List ℕ → Point → List ℕ → Point → Bool
-is_this name stamp o t = bytes_eq name o && (nat_eq stamp.clock t.clock && nat_eq stamp.node t.node)

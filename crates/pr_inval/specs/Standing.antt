@@ -1,11 +1,10 @@
 -- What a session keeps of its stream, and how a contract sees it.
 use Rattle.std.specs.Prelude.{ℕ, List, Bool, ◌≡◌, ◌≤◌, ◌+◌, ◌||◌, max, true, false}
 use Rattle.std.specs.List.{list_any}
-use Rattle.pr_stamps.specs.Point.{Point}
+use Rattle.pr_stamps.specs.Point.{Point, is_this}
 use Rattle.pr_stamps.specs.Kept.{Kept}
 use Rattle.pr_names.specs.Span.{Span}
 use Rattle.pr_vectors.specs.Vector.{join_of, zero_vector}
-use Rattle.pr_inval.specs.Points.{is_this}
 
 -- a stream's subscription, whether it sends bodies, the end of what it has told, the number of its last message, the
 -- time of its last event, and whether a body was sent since its last attach

@@ -22,8 +22,9 @@ pub use kind::Kind;
 pub use merging::{
     merge, merged_cover_what_either_covers, merging_is_associative, merging_is_commutative,
 };
-pub use msg::{Bytes, Msg};
+pub use msg::Msg;
 pub use node_fault::NodeFault;
+pub use pr_stamps::Bytes;
 pub use row::Row;
 pub use session::Session;
 pub use step::Step;

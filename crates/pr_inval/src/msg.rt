@@ -2,11 +2,8 @@
 ghost use Rattle.std.specs.Prelude.{◌≡◌, IfOk};
 
 use crate::Kind;
-use pr_stamps::{NoMemory, Seq};
+use pr_stamps::NoMemory;
 use std::alloc::Global;
-
-/// The bytes of a body.
-pub type Bytes = Seq<u8>;
 
 /// A message: the time of the event that sent it, its stream, and its number among the stream's messages, from 1.
 #[derive(Drop)]

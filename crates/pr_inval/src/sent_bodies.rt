@@ -1,7 +1,6 @@
 // The bodies that a stream sent since its last attach.
-ghost use Rattle.pr_inval.specs.Points.{is_this};
 ghost use Rattle.pr_inval.specs.Standing.{was_sent};
-ghost use Rattle.pr_stamps.specs.Point.{Point};
+ghost use Rattle.pr_stamps.specs.Point.{Point, is_this};
 ghost use Rattle.std.specs.Prelude.{◌≡◌, ◌≤◌, ◌<◌, ◌+◌, ◌||◌, [], ℕ, List, OnOk};
 
 use crate::sent_body::SentBody;

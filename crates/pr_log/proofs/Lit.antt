@@ -11,7 +11,8 @@ use Rattle.pr_vectors.specs.Vector.{Between, Covers, clock_of}
 use Rattle.pr_log.specs.Sets.{is_lit_at, is_in_any, IsDarkAt}
 use Rattle.pr_log.specs.Dark.{IsDarkBetween, IsLitToo, IsRowRefined, is_lit_in, sets_of}
 use Rattle.pr_log.proofs.Clocks.{less_or}
-use Rattle.pr_log.proofs.Places.{below_or, past_end, this_or_other}
+use Rattle.pr_log.proofs.Places.{past_end, this_or_other}
+use Rattle.pr_stamps.proofs.Places.{below_or}
 use Rattle.pr_log.proofs.Names.{either_test}
 
 true_false : {A : Type 0} → true ≡ false → A

@@ -13,7 +13,8 @@ use Rattle.pr_inval.specs.declared.write_rec.WriteRec.{WriteRec}
 use Rattle.pr_log.specs.Known.{Has, IsByStamp, IsFirstAbove, IsWaiting, at_clock, count_above, row_of, total, uncovered, write_at}
 use Rattle.pr_log.specs.Waiting.{IsLeastHead, IsLesser, IsNextOf, head_of}
 use Rattle.pr_log.proofs.Clocks.{less_or, same_some, some_none}
-use Rattle.pr_log.proofs.Places.{below_or, this_or_other}
+use Rattle.pr_log.proofs.Places.{this_or_other}
+use Rattle.pr_stamps.proofs.Places.{below_or}
 
 -- ---- counts
 

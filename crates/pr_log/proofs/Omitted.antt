@@ -13,7 +13,7 @@ use Rattle.pr_inval.specs.declared.write_rec.WriteRec.{WriteRec}
 use Rattle.pr_log.specs.Sets.{is_in_any}
 use Rattle.pr_log.specs.Known.{Has, IsByStamp, IsFirstAbove, IsOmittedBetween, IsOmittedOf, write_at}
 use Rattle.pr_log.proofs.Clocks.{less_or, same_some}
-use Rattle.pr_log.proofs.Places.{below_or}
+use Rattle.pr_stamps.proofs.Places.{below_or}
 use Rattle.pr_log.proofs.Names.{either_test}
 
 true_false : {A : Type 0} → true ≡ false → A

@@ -10,7 +10,7 @@ use Rattle.pr_sets.specs.Spans.{has, IsIntersection}
 use Rattle.pr_log.specs.Sets.{begins_at, is_lit_at, standing, lacks, IsDarkAt, IsNarrowed}
 use Rattle.pr_log.proofs.Clocks.{less_or, none_of, up_to_key, key_not_less, put_in, put_here}
 use Rattle.pr_log.proofs.Names.{either_test}
-use Rattle.pr_log.proofs.Places.{below_or}
+use Rattle.pr_stamps.proofs.Places.{below_or}
 use Rattle.pr_log.proofs.Standing.{here, stands_on, none_stands}
 
 not_not : (b : Bool) → not (not b) ≡ b

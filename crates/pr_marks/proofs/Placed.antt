@@ -5,9 +5,9 @@ use Rattle.std.specs.List.{All}
 use Rattle.std.proofs.lemmas.Bool.Decides.{nat_tests}
 use Rattle.std.proofs.lemmas.List.{get_or_default}
 use Rattle.std.proofs.lemmas.List.Kept.{AllPairs-cons}
-use Rattle.pr_stamps.specs.Point.{Point}
+use Rattle.pr_stamps.specs.Point.{Point, is_before}
 use Rattle.pr_stamps.specs.declared.mark.Mark.{Mark}
-use Rattle.pr_marks.specs.Row.{is_before, Rises, with_mark}
+use Rattle.pr_marks.specs.Row.{Rises, with_mark}
 
 after_nat : (a b c d : ℕ) → IsTrue (nat_lt a c || (nat_eq a c && nat_lt b d)) → (e f : ℕ) → IsTrue (nat_lt c e || (nat_eq c e && nat_lt d f)) → IsTrue (nat_lt a e || (nat_eq a e && nat_lt b f))
 after_nat a b c d h e f g = grind (arith, nat_tests)

@@ -17,9 +17,9 @@ use Rattle.std.proofs.lemmas.Slice.Eq.{bytes_eq-Decides}
 use Rattle.pr_names.specs.Order.{name_lt}
 use Rattle.pr_names.proofs.Places.{lt_cmp}
 use Rattle.pr_stamps.specs.declared.mark.Mark.{Mark}
-use Rattle.pr_vectors.specs.Vector.{join_of}
-use Rattle.pr_marks.specs.declared.newest.Newest.{Newest}
-use Rattle.pr_marks.specs.Row.{Kept, above_floor, is_covered, with_mark}
+use Rattle.pr_vectors.specs.Vector.{join_of, is_covered}
+use Rattle.pr_stamps.specs.declared.newest.Newest.{Newest}
+use Rattle.pr_marks.specs.Row.{Kept, above_floor, with_mark}
 use Rattle.pr_marks.specs.Table.{Table, IsForgotten, IsRaised, IsMarked, marks_in, raised_to, row_of}
 
 same_lookup : {K X : Type 0} (f g : K → Bool) → ((k : K) → f k ≡ g k) → (es : List (K × X)) → lookup f es ≡ lookup g es

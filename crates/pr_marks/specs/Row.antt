@@ -1,29 +1,14 @@
 -- What is kept of a name.
-use Rattle.std.specs.Prelude.{ℕ, Bool, not, List, [], ◌∷◌, ◌||◌, ◌&&◌, nat_lt, nat_le, nat_eq, cond, filter, AllPairs, IsTrue}
-use Rattle.pr_stamps.specs.Point.{Point}
+use Rattle.std.specs.Prelude.{ℕ, not, List, [], ◌∷◌, cond, filter, AllPairs, IsTrue}
+use Rattle.pr_stamps.specs.Point.{is_before}
 use Rattle.pr_stamps.specs.declared.mark.Mark.{Mark}
-use Rattle.pr_vectors.specs.Vector.{clock_of}
-use Rattle.pr_marks.specs.declared.newest.Newest.{Newest}
+use Rattle.pr_vectors.specs.Vector.{is_covered}
+use Rattle.pr_stamps.specs.declared.newest.Newest.{Newest}
 
 -- the newest known stamp, and the marks in the order of their stamps
 pub record Kept : Type 0 where
   pub newest : Newest
   pub marks : List Mark
-
--- the first stamp comes before the second
-abbrev pub is_before : Point → Point → Bool
-is_before s t = nat_lt s.clock t.clock || (nat_eq s.clock t.clock && nat_lt s.node t.node)
-
-abbrev pub is_same : Point → Point → Bool
-is_same s t = nat_eq s.clock t.clock && nat_eq s.node t.node
-
--- the vector covers the stamp
-abbrev pub is_covered : List ℕ → Point → Bool
-is_covered v s = nat_le s.clock (clock_of v s.node)
-
--- the later of the two; of equal stamps the first
-abbrev pub later : Newest → Newest → Newest
-later a b = cond (is_before a.stamp b.stamp) b a
 
 -- each stamp comes before all later ones
 abbrev pub Rises : List Mark → Type 0

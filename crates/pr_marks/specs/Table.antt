@@ -1,13 +1,14 @@
 -- The table of marks: by name, and up to a floor.
-use Rattle.std.specs.Prelude.{◌≡◌, ℕ, Bool, true, List, [], Option, None, Some, cond, map, AllPairs, IsTrue}
+use Rattle.std.specs.Prelude.{◌≡◌, ℕ, Bool, true, List, [], Option, None, Some, cond, map}
 use Rattle.std.specs.Option.{option_map}
 use Rattle.std.specs.Map.{lookup}
 use Rattle.std.specs.Str.{bytes_eq}
 use Rattle.pr_stamps.specs.declared.mark.Mark.{Mark}
-use Rattle.pr_vectors.specs.Vector.{join_of}
+use Rattle.pr_vectors.specs.Vector.{join_of, is_covered}
 use Rattle.pr_names.specs.Order.{name_lt}
-use Rattle.pr_marks.specs.declared.newest.Newest.{Newest}
-use Rattle.pr_marks.specs.Row.{Kept, above_floor, is_covered, later, with_mark}
+use Rattle.pr_stamps.specs.declared.newest.Newest.{Newest}
+use Rattle.pr_marks.specs.Row.{Kept, above_floor, with_mark}
+use Rattle.pr_stamps.specs.Marks.{later}
 
 -- the names with what is kept of each, the floor, and whether a call was refused memory
 pub record Table : Type 0 where
@@ -33,10 +34,6 @@ marks_of t o = marks_in (row_of t o)
 -- the names that have a newest known stamp, in order
 abbrev pub names_of : Table → List (List ℕ)
 names_of t = map (λ (r : List ℕ × Kept). r.0) t.rows
-
--- each of these names comes before all later ones
-abbrev pub NamesRise : Table → Type 0
-NamesRise t = AllPairs (λ (a : List ℕ) (b : List ℕ). IsTrue (name_lt a b)) (names_of t)
 
 -- the name comes after this one, if there is one
 abbrev pub is_after : Option (List ℕ) → List ℕ → Bool

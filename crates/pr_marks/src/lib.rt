@@ -3,10 +3,9 @@
 
 mod conflicts;
 mod marks;
-mod newest;
 mod row;
 #[cfg(test)]
 mod tests;
 
 pub use marks::Marks;
-pub use newest::Newest;
+pub use pr_stamps::Newest;

@@ -1,13 +1,14 @@
 // The table of marks.
 ghost use Rattle.pr_marks.specs.Pairs.{pairs_of};
-ghost use Rattle.pr_marks.specs.Row.{Kept, Rises, is_covered, with_mark};
-ghost use Rattle.pr_marks.specs.Table.{IsForgotten, IsMarked, IsRaised, NamesRise, is_after, marks_in, marks_of, names_of, newest_of, raised_to};
-ghost use Rattle.pr_vectors.specs.Vector.{IsVector, zero_vector};
+ghost use Rattle.pr_marks.specs.Row.{Kept, Rises, with_mark};
+ghost use Rattle.pr_marks.specs.Table.{IsForgotten, IsMarked, IsRaised, is_after, marks_in, marks_of, names_of, newest_of, raised_to};
+ghost use Rattle.pr_names.specs.Order.{NamesRise};
+ghost use Rattle.pr_vectors.specs.Vector.{IsVector, zero_vector, is_covered};
 ghost use Rattle.std.specs.Prelude.{◌≡◌, [], true, false, None, Some, IfOk, IsErr, OnErr, OnOk, cond, find};
 ghost use Rattle.std.specs.Option.{option_map};
 ghost use Rattle.std.specs.BTreeMap.{keys};
 
-use crate::row::{Row, is_covered};
+use crate::row::Row;
 use crate::{Newest, conflicts};
 use pr_names::Name;
 use pr_stamps::{Mark, NoMemory, Seq, Stamp};
@@ -130,7 +131,7 @@ impl Marks {
     /// exactly where there is none.
     pub fn next_known(&self, above: &Option<Name>) -> Option<Name>
         ensures value { result ≡ find (is_after above.now) (names_of self.now) }
-        ensures order { NamesRise self.now }
+        ensures order { NamesRise (names_of self.now) }
     {
         let _ = self.rows.len();
         match above {
@@ -187,7 +188,7 @@ fn marked(mut row: Row, floor: &Vector, mark: &Mark) -> Result<Row, NoMemory>
     ensures newest { IfOk result (λ r. r.newest ≡ row.newest) }
     ensures marks { IfOk result (λ r. r.marks ≡ cond (is_covered floor.now mark.now.stamp) row.marks (with_mark row.marks mark.now)) }
 {
-    if !is_covered(floor, &mark.stamp) {
+    if !floor.covers(&mark.stamp) {
         row.add(mark)?;
     }
     Ok(row)

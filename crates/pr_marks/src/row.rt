@@ -1,5 +1,8 @@
 // What is kept of a name.
-ghost use Rattle.pr_marks.specs.Row.{Rises, above_floor, is_before, is_covered, later, with_mark};
+ghost use Rattle.pr_marks.specs.Row.{Rises, above_floor, with_mark};
+ghost use Rattle.pr_vectors.specs.Vector.{is_covered};
+ghost use Rattle.pr_stamps.specs.Marks.{later};
+ghost use Rattle.pr_stamps.specs.Point.{is_before};
 ghost use Rattle.pr_stamps.specs.declared.mark.Mark.{Mark};
 ghost use Rattle.std.specs.Prelude.{◌≡◌, ◌≤◌, ◌<◌, ℕ, [], false, length, slice_index_or, IsTrue, OnErr, OnOk};
 
@@ -54,7 +57,7 @@ impl Row {
         ensures newest { self.new.newest ≡ later self.old.newest newest.now }
         ensures marks { self.new.marks ≡ self.old.marks }
     {
-        if is_before(&self.newest.stamp, &newest.stamp) {
+        if self.newest.stamp.is_before(&newest.stamp) {
             self.newest = *newest;
         }
     }
@@ -78,7 +81,7 @@ impl Row {
         ensures newest { self.new.newest ≡ self.old.newest }
         ensures marks { self.new.marks ≡ above_floor floor.now self.old.marks }
     {
-        self.marks.retain(|mark| !is_covered(floor, &mark.stamp));
+        self.marks.retain(|mark| !floor.covers(&mark.stamp));
     }
 }
 
@@ -90,7 +93,7 @@ fn place(marks: &[Mark], stamp: &Stamp) -> usize
     ensures after { (k : ℕ) (d : Mark) → result ≤ k → k < length marks.now → is_before (slice_index_or marks.now k d).stamp stamp.now ≡ false }
 {
     let mut at = marks.len();
-    while at > 0 && !is_before(&marks[at - 1].stamp, stamp) {
+    while at > 0 && !marks[at - 1].stamp.is_before(stamp) {
         at -= 1;
     }
     at
@@ -102,18 +105,4 @@ fn stands_at(marks: &[Mark], at: usize, stamp: &Stamp) -> bool
     ensures not_here { result ≡ false → (d : Mark) → at < length marks.now → ¬ ((slice_index_or marks.now at d).stamp ≡ stamp.now) }
 {
     at < marks.len() && marks[at].stamp == *stamp
-}
-
-// Whether the first stamp comes before the second.
-pub fn is_before(first: &Stamp, second: &Stamp) -> bool
-    ensures { result ≡ is_before first.now second.now }
-{
-    first.clock() < second.clock()
-        || first.clock() == second.clock() && first.node() < second.node()
-}
-
-pub fn is_covered(floor: &Vector, stamp: &Stamp) -> bool
-    ensures { result ≡ is_covered floor.now stamp.now }
-{
-    stamp.clock() <= floor.at(stamp.node())
 }

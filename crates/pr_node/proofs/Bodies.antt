@@ -1,14 +1,14 @@
 -- All stores stay tied over an accepted body; and what starts at zero has no gap.
 use Rattle.std.proofs.Common.{◌≡◌, ℕ, inl, inr, List, ◌∷◌, cond, refl, sym, ◌∙◌, ap, subst, arith}
 use Rattle.std.specs.Prelude.{Bool, true, false, Decides, Option, Some, None}
-use Rattle.pr_stamps.specs.Point.{Point, Before}
+use Rattle.pr_stamps.specs.Point.{Point, Before, is_this}
 use Rattle.pr_vectors.specs.Vector.{clock_of, Le, zero_vector}
 use Rattle.pr_inval.specs.declared.kind.Kind.{Kind}
 use Rattle.pr_inval.specs.declared.kind.Kind.TheVariants.{Precise, Imprecise, Checkpoint, Body}
 use Rattle.pr_inval.specs.declared.msg.Msg.{Msg}
-use Rattle.pr_inval.specs.Points.{is_this, is_invalidation, from_of, to_of, CoversPoint}
+use Rattle.pr_inval.specs.Points.{is_invalidation, from_of, to_of, CoversPoint}
 use Rattle.pr_bodies.specs.Bodies.{Held, held}
-use Rattle.pr_marks.specs.declared.newest.Newest.{Newest}
+use Rattle.pr_stamps.specs.declared.newest.Newest.{Newest}
 use Rattle.pr_marks.specs.Table.{newest_of}
 use Rattle.pr_story.specs.declared.entry.Entry.{Entry}
 use Rattle.pr_story.specs.declared.event.Event.TheVariants.{Accepted}
@@ -19,7 +19,7 @@ use Rattle.pr_story.proofs.Basics.{clock_zero}
 use Rattle.pr_story.proofs.Known.{Decides-is_this, same_point}
 use Rattle.pr_node.specs.declared.stores.Stores.{Stores}
 use Rattle.pr_node.specs.Taking.{IsBodyTaken, IsLate}
-use Rattle.pr_node.specs.Ties.{IsTied, IsLogOf, IsGapsOf, IsMarksOf, named}
+use Rattle.pr_node.specs.Ties.{IsTied, IsLogOf, IsGapsOf, IsMarksOf}
 use Rattle.pr_inval.specs.Messages.{IsKind}
 use Rattle.pr_node.proofs.Logs.{same_log}
 use Rattle.pr_node.proofs.Points.{same_gaps}
@@ -44,7 +44,7 @@ not_this : (name : List ℕ) (stamp : Point) (o : List ℕ) (t : Point) (x y : O
 not_this name stamp o t x y isnt = not_this_by (is_this name stamp o t) ((name ≡ o) × ((stamp.clock ≡ t.clock) × (stamp.node ≡ t.node))) x y (Decides-is_this name stamp o t) (λ d. isnt d.0 (same_point stamp t d.1.0 d.1.1))
 
 -- a stamp after this one was named
-late_named : (j : List Entry) (name : List ℕ) (stamp : Point) (newest : Option Newest) → IsNewestOf j name (named newest) → IsLate newest stamp → (s : Point) × WasNamed j name s × Before stamp s
+late_named : (j : List Entry) (name : List ℕ) (stamp : Point) (newest : Option Newest) → IsNewestOf j name newest → IsLate newest stamp → (s : Point) × WasNamed j name s × Before stamp s
 late_named j name stamp None n late = absurd late
 late_named j name stamp (Some newest) n late = (newest.stamp, n.0.0, late)
 

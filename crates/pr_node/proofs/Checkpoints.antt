@@ -6,32 +6,31 @@ use Rattle.std.proofs.lemmas.Slice.Eq.{bytes_eq-Decides}
 use Rattle.std.proofs.lemmas.Bool.Decides.{nat_tests}
 use Rattle.std.proofs.lemmas.List.{get_or_past, append_assoc, append-nil}
 use Rattle.std.proofs.lemmas.List.Kept.{AllPairs-filter}
-use Rattle.pr_stamps.specs.Point.{Point, Before, IsStamp}
+use Rattle.pr_stamps.specs.Point.{Point, Before, IsStamp, is_before}
 use Rattle.pr_stamps.specs.declared.mark.Mark.{Mark}
 use Rattle.pr_names.specs.Span.{Span}
-use Rattle.pr_vectors.specs.Vector.{clock_of, join_of, IsVector}
+use Rattle.pr_vectors.specs.Vector.{clock_of, join_of, IsVector, is_covered}
 use Rattle.pr_vectors.proofs.Vectors.{clock_of-vector_of}
 use Rattle.pr_inval.specs.declared.kind.Kind.{Kind}
 use Rattle.pr_inval.specs.declared.kind.Kind.TheVariants.{Checkpoint}
 use Rattle.pr_inval.specs.declared.msg.Msg.{Msg}
 use Rattle.pr_inval.specs.declared.row.Row.{Row}
-use Rattle.pr_marks.specs.declared.newest.Newest.{Newest}
-use Rattle.pr_marks.specs.Row.{is_before, is_covered, Rises, with_mark, above_floor}
+use Rattle.pr_stamps.specs.declared.newest.Newest.{Newest}
+use Rattle.pr_marks.specs.Row.{Rises, with_mark, above_floor}
 use Rattle.pr_marks.specs.Table.{Table, newest_of, marks_of, raised_to}
 use Rattle.pr_marks.proofs.Placed.{rises_with}
 use Rattle.pr_snap.specs.Apply.{newest_by, newest_after, newest_among, marks_by, marks_among}
 use Rattle.pr_story.specs.declared.entry.Entry.{Entry}
 use Rattle.pr_story.specs.declared.event.Event.TheVariants.{Accepted}
-use Rattle.pr_story.specs.declared.plain.named.Named.{Named}
 use Rattle.pr_story.specs.Knowledge.{first_of, floor_in, floor_of, known_mark, mark_at, mark_in_rows, mark_in}
 use Rattle.pr_story.specs.Ranges.{IsRow}
 use Rattle.pr_story.specs.Search.{later_of, IsNewestRow, IsNewestOf}
 use Rattle.pr_story.proofs.NewestNow.{first_none, first_twice, newest_more, rows_newest, other_row, this_row_of}
-use Rattle.pr_node.specs.Ties.{IsMarksOf, IsMarkInRange, named}
+use Rattle.pr_node.specs.Ties.{IsMarksOf, IsMarkInRange}
 use Rattle.pr_snap.proofs.Choice.{by_test}
 use Rattle.pr_node.proofs.Clocks.{clock_out, floor_out, below_or_not}
 use Rattle.pr_node.proofs.Marked.{IsKept, here, is_at, kept_more, covered_alike, all_with, all_above}
-use Rattle.pr_node.proofs.Tables.{named_raised}
+use Rattle.pr_node.proofs.Tables.{newest_raised}
 
 -- ---- newest stamps
 
@@ -56,7 +55,7 @@ row_newest row (Some m) all = by_test (is_before m.stamp row.newest)
     (λ e. rw e (marks_leave (record { stamp = row.newest; gone = row.gone }) row.marks all))
     (λ e. rw e (marks_leave m row.marks (λ k d lt. not_after m.stamp row.newest (get_or row.marks k d).stamp e (all k d lt))))
 
-first_later : (x y z : Named) → later_of (later_of (Some x) (Some y)) (Some z) ≡ later_of (Some x) (later_of (Some y) (Some z))
+first_later : (x y z : Newest) → later_of (later_of (Some x) (Some y)) (Some z) ≡ later_of (Some x) (later_of (Some y) (Some z))
 first_later x y z = by_test (is_before x.stamp y.stamp)
     (λ xy. by_test (is_before y.stamp z.stamp)
     (λ yz. rw xy (rw yz (rw (both x.stamp y.stamp z.stamp xy yz) refl)))
@@ -71,39 +70,38 @@ first_later x y z = by_test (is_before x.stamp y.stamp)
     neither : (s t u : Point) → is_before s t ≡ false → is_before t u ≡ false → is_before s u ≡ false
     neither s t u a b = grind (arith, nat_tests)
 
-later_twice : (a b : Option Named) (z : Named) → later_of (later_of a b) (Some z) ≡ later_of a (later_of b (Some z))
+later_twice : (a b : Option Newest) (z : Newest) → later_of (later_of a b) (Some z) ≡ later_of a (later_of b (Some z))
 later_twice None b z = refl
 later_twice (Some x) None z = refl
 later_twice (Some x) (Some y) z = first_later x y z
 
-later_none : (n : Option Named) → later_of n None ≡ n
+later_none : (n : Option Newest) → later_of n None ≡ n
 later_none None = refl
 later_none (Some x) = refl
 
 -- the rows name what was named before them, or later
-abbrev HasLater : List Row → List ℕ → Option Named → Option Named → Type 0
-HasLater rows o was now = (here : Option Named) × IsNewestRow rows o here × (now ≡ later_of was here)
+abbrev HasLater : List Row → List ℕ → Option Newest → Option Newest → Type 0
+HasLater rows o was now = (here : Option Newest) × IsNewestRow rows o here × (now ≡ later_of was here)
 
-one_row : (done : List Row) (row : Row) (o : List ℕ) (was : Option Named) (n : Option Newest)
-    → All (λ (m : Mark). ¬ Before row.newest m.stamp) row.marks → HasLater done o was (named n)
-    → HasLater (done ++ row ∷ []) o was (named (cond (bytes_eq row.name o) (newest_after row n) n))
+one_row : (done : List Row) (row : Row) (o : List ℕ) (was : Option Newest) (n : Option Newest)
+    → All (λ (m : Mark). ¬ Before row.newest m.stamp) row.marks → HasLater done o was n
+    → HasLater (done ++ row ∷ []) o was (cond (bytes_eq row.name o) (newest_after row n) n)
 one_row done row o was n all old =
-    let new : Newest = record { stamp = row.newest; gone = row.gone } in
-    let now : Named = record { stamp = row.newest; gone = row.gone } in
+    let now : Newest = record { stamp = row.newest; gone = row.gone } in
     by_test (bytes_eq row.name o)
     (λ e. rw e (
       later_of old.0 (Some now),
       this_row_of done row o old.0 (later_of old.0 (Some now)) now ((bytes_eq-Decides row.name o).0 e) refl refl refl old.1,
-      ap named (row_newest row n all) ∙ named_raised n new ∙ ap (λ (x : Option Named). later_of x (Some now)) old.2 ∙ later_twice was old.0 now,
+      row_newest row n all ∙ newest_raised n now ∙ ap (λ (x : Option Newest). later_of x (Some now)) old.2 ∙ later_twice was old.0 now,
     ))
     (λ e. rw e (old.0, other_row done row o old.0 (λ name. let bad : bytes_eq row.name o ≡ true = (bytes_eq-Decides row.name o).1 name in cc) old.1, old.2))
 
-all_rows : (done rows : List Row) (o : List ℕ) (was : Option Named) (n : Option Newest)
-    → All (λ (row : Row). All (λ (m : Mark). ¬ Before row.newest m.stamp) row.marks) rows → HasLater done o was (named n)
-    → HasLater (done ++ rows) o was (named (newest_among rows o n))
-all_rows done [] o was n all old = subst (λ (r : List Row). HasLater r o was (named n)) (sym (append-nil done)) old
+all_rows : (done rows : List Row) (o : List ℕ) (was : Option Newest) (n : Option Newest)
+    → All (λ (row : Row). All (λ (m : Mark). ¬ Before row.newest m.stamp) row.marks) rows → HasLater done o was n
+    → HasLater (done ++ rows) o was (newest_among rows o n)
+all_rows done [] o was n all old = subst (λ (r : List Row). HasLater r o was n) (sym (append-nil done)) old
 all_rows done (row ∷ rows) o was n all old =
-    subst (λ (r : List Row). HasLater r o was (named (newest_among (row ∷ rows) o n))) (append_assoc done (row ∷ []) rows) (
+    subst (λ (r : List Row). HasLater r o was (newest_among (row ∷ rows) o n)) (append_assoc done (row ∷ []) rows) (
     all_rows (done ++ row ∷ []) rows o was (cond (bytes_eq row.name o) (newest_after row n) n) (λ k d lt. all (suc k) d (omega arith)) (one_row done row o was n (all 0 row (omega arith)) old))
 
 none_yet : (o : List ℕ) → IsNewestRow [] o None
@@ -111,11 +109,11 @@ none_yet o row c e = let bad : c.0 < 0 = c.1 in omega arith
 
 newest_applied : (j : List Entry) (m q : Table) (time caller : ℕ) (msg : Msg) (at to : List ℕ) (target : List Span) (floor : List ℕ) (rows : List Row) (o : List ℕ)
     → msg.kind ≡ Checkpoint to target floor rows → All (λ (row : Row). All (λ (mark : Mark). ¬ Before row.newest mark.stamp) row.marks) rows
-    → IsNewestOf j o (named (newest_of m o)) → newest_of q o ≡ newest_among rows o (newest_of m o)
-    → IsNewestOf (record { time = time; caller = caller; event = Accepted msg at } ∷ j) o (named (newest_of q o))
+    → IsNewestOf j o (newest_of m o) → newest_of q o ≡ newest_among rows o (newest_of m o)
+    → IsNewestOf (record { time = time; caller = caller; event = Accepted msg at } ∷ j) o (newest_of q o)
 newest_applied j m q time caller msg at to target floor rows o is orderly old applied =
-    let l : HasLater rows o (named (newest_of m o)) (named (newest_among rows o (newest_of m o))) = all_rows [] rows o (named (newest_of m o)) (newest_of m o) orderly (None, none_yet o, sym (later_none (named (newest_of m o)))) in
-    newest_more (record { time = time; caller = caller; event = Accepted msg at }) j o (named (newest_of m o)) l.0 (named (newest_of q o)) (ap named applied ∙ l.2) old (rows_newest msg at to floor target rows o l.0 is l.1)
+    let l : HasLater rows o (newest_of m o) (newest_among rows o (newest_of m o)) = all_rows [] rows o (newest_of m o) (newest_of m o) orderly (None, none_yet o, sym (later_none (newest_of m o))) in
+    newest_more (record { time = time; caller = caller; event = Accepted msg at }) j o (newest_of m o) l.0 (newest_of q o) (applied ∙ l.2) old (rows_newest msg at to floor target rows o l.0 is l.1)
 
 -- ---- marks
 

@@ -6,16 +6,17 @@ use Rattle.pr_stamps.specs.Point.{Point}
 use Rattle.pr_names.specs.Span.{Span}
 use Rattle.pr_sets.specs.Spans.{has}
 use Rattle.pr_vectors.specs.Vector.{clock_of, Covers}
-use Rattle.pr_gaps.specs.Gaps.{Told, IsTold as IsToldIn, IsLeastUntold, set_at, set_of as set_of_gaps, first_with as first_in}
+use Rattle.pr_gaps.specs.Gaps.{Told, IsTold as IsToldIn, IsLeastUntold, set_at}
+use Rattle.pr_sets.specs.Sets.{set_of as set_of_gaps, first_with as first_in, first_with, set_of}
 use Rattle.pr_bodies.specs.Bodies.{Held, held}
-use Rattle.pr_marks.specs.declared.newest.Newest.{Newest}
+use Rattle.pr_stamps.specs.declared.newest.Newest.{Newest}
 use Rattle.pr_marks.specs.Table.{Table, newest_of}
 use Rattle.pr_story.specs.declared.entry.Entry.{Entry}
 use Rattle.pr_story.specs.History.{current_clock, current_vector}
-use Rattle.pr_story.specs.Told.{IsTold, IsPrecise, IsUntold, first_with, set_of}
+use Rattle.pr_story.specs.Told.{IsTold, IsPrecise, IsUntold}
 use Rattle.pr_story.specs.Knowledge.{IsNewestKnown, KnowsGone, held_body}
 use Rattle.pr_story.specs.Search.{IsNewestOf}
-use Rattle.pr_node.specs.Ties.{IsGapsOf, IsBodiesOf, IsMarksOf, named}
+use Rattle.pr_node.specs.Ties.{IsGapsOf, IsBodiesOf, IsMarksOf}
 use Rattle.pr_node.proofs.Clocks.{clock_out, below_or_not, same_covered}
 
 -- the set that has the name is the same set, in the words of the told points and of a history
@@ -53,8 +54,8 @@ module _ (n : ℕ) (j : List Entry) (g : Told) (o : List ℕ) (index : ℕ) (f :
   pub precise_is : IsLeastUntold g index None → IsPrecise n j (set_of g.sets o)
   precise_is u p c = let lt : p.node < 32 = covered_node j p c in told_is p lt (u p lt (same_covered (current_vector j) g.vector p (sym f.vector) c))
 
-newest_as : (j : List Entry) (m : Table) (o : List ℕ) (q : Option Newest) → IsMarksOf j m → q ≡ newest_of m o → IsNewestOf j o (named q)
-newest_as j m o q f is = subst (λ (x : Option Newest). IsNewestOf j o (named x)) (sym is) (f.newest o)
+newest_as : (j : List Entry) (m : Table) (o : List ℕ) (q : Option Newest) → IsMarksOf j m → q ≡ newest_of m o → IsNewestOf j o q
+newest_as j m o q f is = subst (λ (x : Option Newest). IsNewestOf j o x) (sym is) (f.newest o)
 
 pub none_known : (j : List Entry) (m : Table) (o : List ℕ) → IsMarksOf j m → None ≡ newest_of m o → IsNewestKnown j o None
 none_known j m o f is = newest_as j m o None f is

@@ -2,20 +2,20 @@
 use Rattle.std.proofs.Common.{◌≡◌, ℕ, ◌≤◌, inl, inr, List, ◌∷◌, max, refl, sym, ◌∙◌, ap, subst, arith}
 use Rattle.std.specs.Prelude.{All, not, IsTrue, Option, Some, None}
 use Rattle.std.proofs.lemmas.List.Kept.{AllPairs-filter}
-use Rattle.pr_stamps.specs.Point.{Point}
+use Rattle.pr_stamps.specs.Point.{Point, is_before}
 use Rattle.pr_stamps.specs.declared.mark.Mark.{Mark}
-use Rattle.pr_vectors.specs.Vector.{clock_of, Covers, join_of, IsVector}
+use Rattle.pr_vectors.specs.Vector.{clock_of, Covers, join_of, IsVector, is_covered}
 use Rattle.pr_vectors.proofs.Vectors.{clock_of-vector_of}
 use Rattle.pr_log.specs.Log.{IsCut}
 use Rattle.pr_bodies.specs.Bodies.{IsDroppedAll}
-use Rattle.pr_marks.specs.Row.{is_before, is_covered, Rises, above_floor}
+use Rattle.pr_marks.specs.Row.{Rises, above_floor}
 use Rattle.pr_marks.specs.Table.{Table, newest_of, marks_of, IsForgotten}
 use Rattle.pr_story.specs.declared.entry.Entry.{Entry}
 use Rattle.pr_story.specs.declared.event.Event.TheVariants.{Cut, Dropped}
 use Rattle.pr_story.specs.Knowledge.{first_of, known_mark, cuts_of}
 use Rattle.pr_story.proofs.NewestNow.{newest_more}
 use Rattle.pr_node.specs.declared.stores.Stores.{Stores}
-use Rattle.pr_node.specs.Ties.{IsTied, IsLogOf, IsGapsOf, IsBodiesOf, IsMarksOf, IsMarkInRange, named}
+use Rattle.pr_node.specs.Ties.{IsTied, IsLogOf, IsGapsOf, IsBodiesOf, IsMarksOf, IsMarkInRange}
 use Rattle.pr_node.proofs.Clocks.{same_current, cut_out, below_or_not}
 use Rattle.pr_node.proofs.Logs.{lit_step, same_log}
 use Rattle.pr_node.proofs.Points.{same_gaps}
@@ -38,7 +38,7 @@ none_first None = refl
 cut_marks : (j : List Entry) (a b : Table) (time caller : ℕ) (at : List ℕ) → IsVector at → IsMarksOf j a → IsForgotten a b at → IsMarksOf (record { time = time; caller = caller; event = Cut at } ∷ j) b
 cut_marks j a b time caller at range f gone = record {
   floor = gone.floor ∙ ap (λ (v : List ℕ). join_of v at) f.floor;
-  newest = λ o. newest_more (record { time = time; caller = caller; event = Cut at }) j o (named (newest_of a o)) None (named (newest_of b o)) (ap named (gone.newest o) ∙ later_none (named (newest_of a o))) (f.newest o) (λ s t. t);
+  newest = λ o. newest_more (record { time = time; caller = caller; event = Cut at }) j o (newest_of a o) None (newest_of b o) (gone.newest o ∙ later_none (newest_of a o)) (f.newest o) (λ s t. t);
   rises = λ o. subst (λ (ms : List Mark). Rises ms) (sym (gone.marks o)) (AllPairs-filter (λ (x : Mark) (y : Mark). IsTrue (is_before x.stamp y.stamp)) (λ (x : Mark). not (is_covered at x.stamp)) (marks_of a o) (f.rises o));
   in_range = λ o. subst (λ (ms : List Mark). All IsMarkInRange ms) (sym (gone.marks o)) (all_above IsMarkInRange at (marks_of a o) (f.in_range o));
   from_one = λ o s none. ap (λ (x : Option Mark). first_of x None) (f.from_one o s none);

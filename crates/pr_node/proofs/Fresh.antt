@@ -5,16 +5,16 @@ use Rattle.std.proofs.lemmas.Bool.Decides.{Decides-eqb}
 use Rattle.pr_stamps.specs.Point.{Point}
 use Rattle.pr_stamps.specs.declared.mark.Mark.{Mark}
 use Rattle.pr_names.specs.Span.{Span}
-use Rattle.pr_vectors.specs.Vector.{clock_of, Covers, zero_vector}
+use Rattle.pr_vectors.specs.Vector.{clock_of, Covers, zero_vector, is_covered}
 use Rattle.pr_log.specs.Log.{IsNewLog}
 use Rattle.pr_gaps.specs.Gaps.{IsNew}
 use Rattle.pr_bodies.specs.Bodies.{Held}
-use Rattle.pr_marks.specs.Row.{is_covered}
 use Rattle.pr_marks.specs.Table.{Table}
 use Rattle.pr_story.specs.declared.entry.Entry.{Entry}
 use Rattle.pr_story.proofs.Basics.{clock_zero}
 use Rattle.pr_node.specs.declared.stores.Stores.{Stores}
-use Rattle.pr_node.specs.Ties.{AreApart, IsTied, IsBodiesOf, IsMarksOf}
+use Rattle.pr_node.specs.Ties.{IsTied, IsBodiesOf, IsMarksOf}
+use Rattle.pr_sets.specs.Sets.{AreApart}
 
 none_covered : (p : Point) → Covers zero_vector p → ⊥
 none_covered p c = let z : clock_of zero_vector p.node ≡ 0 = clock_zero p.node in omega (arith, z, c.0, c.1)

@@ -4,8 +4,8 @@ use Rattle.std.specs.Prelude.{Bool, true, false, Option, None, ◌&&◌}
 use Rattle.std.specs.Str.{bytes_eq}
 use Rattle.std.proofs.lemmas.Slice.Eq.{bytes_eq-Decides}
 use Rattle.std.proofs.lemmas.Bool.Decides.{nat_tests}
-use Rattle.pr_stamps.specs.Point.{Point, Before}
-use Rattle.pr_bodies.specs.Bodies.{IsSettled, Held, held, is_before}
+use Rattle.pr_stamps.specs.Point.{Point, Before, is_before}
+use Rattle.pr_bodies.specs.Bodies.{IsSettled, Held, held}
 use Rattle.pr_story.specs.declared.entry.Entry.{Entry}
 use Rattle.pr_story.specs.Knowledge.{WasNamed, body_after}
 use Rattle.pr_node.specs.Ties.{IsBodiesOf}

@@ -2,9 +2,10 @@
 use Rattle.std.proofs.Common.{◌≡◌, ℕ, List, [], ◌∷◌, zero, suc, cond, refl, sym, ◌∙◌, ap, arith, nat_eq}
 use Rattle.std.specs.Prelude.{Bool, true, false, ◌&&◌, Option, Some, None, IsTrue, All}
 use Rattle.std.proofs.lemmas.Bool.Decides.{nat_tests}
-use Rattle.pr_stamps.specs.Point.{Point}
+use Rattle.pr_stamps.specs.Point.{Point, is_before}
 use Rattle.pr_stamps.specs.declared.mark.Mark.{Mark}
-use Rattle.pr_marks.specs.Row.{above_floor, is_before, is_covered, Rises, with_mark}
+use Rattle.pr_marks.specs.Row.{above_floor, Rises, with_mark}
+use Rattle.pr_vectors.specs.Vector.{is_covered}
 use Rattle.pr_story.specs.Knowledge.{first_of, mark_at}
 use Rattle.pr_story.proofs.NewestNow.{first_none, first_twice}
 use Rattle.pr_snap.proofs.Choice.{by_test}

@@ -2,24 +2,23 @@
 use Rattle.std.proofs.Common.{◌≡◌, ℕ, ◌<◌, ◌≤◌, ◌+◌, List, refl, sym, ◌∙◌, ap, subst, arith, inl, inr}
 use Rattle.std.specs.Prelude.{Bool, Option, None, Some}
 use Rattle.std.specs.Option.{option_map}
-use Rattle.pr_stamps.specs.Point.{Point, IsStamp}
+use Rattle.pr_stamps.specs.Point.{Point, IsStamp, IsPrev}
 use Rattle.pr_inval.specs.declared.write_rec.WriteRec.{WriteRec}
 use Rattle.pr_names.specs.Name.{IsName}
 use Rattle.pr_vectors.specs.Vector.{clock_of, Covers, IsVector}
 use Rattle.pr_vectors.proofs.Vectors.{clock_of-vector_of}
-use Rattle.pr_marks.specs.declared.newest.Newest.{Newest}
+use Rattle.pr_stamps.specs.declared.newest.Newest.{Newest}
 use Rattle.pr_marks.specs.Table.{Table, newest_of}
 use Rattle.pr_story.specs.declared.entry.Entry.{Entry}
 use Rattle.pr_story.specs.History.{current_clock, current_vector}
 use Rattle.pr_story.specs.Knowledge.{IsNewestKnown}
 use Rattle.pr_story.specs.Ranges.{IsStampOrNone}
 use Rattle.pr_story.specs.Search.{IsNewestOf}
-use Rattle.pr_node.specs.Ties.{IsMarksOf, named}
+use Rattle.pr_node.specs.Ties.{IsMarksOf}
 use Rattle.pr_node.specs.Grammar.{IsSpelled}
 use Rattle.pr_node.specs.Writes.{IsClockWornIn, IsNextOwn}
 use Rattle.pr_node.proofs.Clocks.{clock_out, below_or_not}
 use Rattle.pr_node.proofs.Spelled.{named_covered}
-use Rattle.pr_inval.specs.Messages.{IsPrev}
 
 clock_is : (j : List Entry) (v : List ℕ) (w : ℕ) → v ≡ current_vector j → w < 32 → clock_of v w ≡ current_clock j w
 clock_is j v w is lt = ap (λ (x : List ℕ). clock_of x w) is ∙ clock_of-vector_of (current_clock j) w lt
@@ -36,9 +35,9 @@ clock_worn j v great is range held worn =
 pub newest_known : (j : List Entry) (m : Table) (o : List ℕ) (newest : Option Newest) → IsMarksOf j m → newest ≡ newest_of m o → IsNewestKnown j o (option_map (λ (n : Newest). n.stamp) newest)
 newest_known j m o newest f is = by newest (f.newest o) is
   where
-    by : (n : Option Newest) → IsNewestOf j o (named (newest_of m o)) → n ≡ newest_of m o → IsNewestKnown j o (option_map (λ (n : Newest). n.stamp) n)
-    by None known is = subst (λ (x : Option Newest). IsNewestOf j o (named x)) (sym is) known
-    by (Some n) known is = (subst (λ (x : Option Newest). IsNewestOf j o (named x)) (sym is) known).0
+    by : (n : Option Newest) → IsNewestOf j o (newest_of m o) → n ≡ newest_of m o → IsNewestKnown j o (option_map (λ (n : Newest). n.stamp) n)
+    by None known is = subst (λ (x : Option Newest). IsNewestOf j o x) (sym is) known
+    by (Some n) known is = (subst (λ (x : Option Newest). IsNewestOf j o x) (sym is) known).0
 
 pub next_own : (n : ℕ) (j : List Entry) (v name : List ℕ) (gone : Bool) (great clock : ℕ) (stamp : Point) (prev : Option Point)
     → v ≡ current_vector j → ((w : ℕ) → w < 32 → clock_of v w ≤ great) → ((w : ℕ) × (w < 32) × (clock_of v w ≡ great))

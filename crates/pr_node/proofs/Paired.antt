@@ -4,15 +4,16 @@ use Rattle.std.specs.Prelude.{Bool, true, false, Option, Some, None, IsTrue, All
 use Rattle.std.specs.List.{flat_map}
 use Rattle.std.proofs.lemmas.Bool.Decides.{nat_tests}
 use Rattle.std.proofs.lemmas.List.Elements.{All-contains_itself}
-use Rattle.pr_stamps.specs.Point.{Point, Before, IsStamp}
+use Rattle.pr_stamps.specs.Point.{Point, Before, IsStamp, is_before}
 use Rattle.pr_stamps.specs.declared.mark.Mark.{Mark}
-use Rattle.pr_vectors.specs.Vector.{clock_of, Covers}
-use Rattle.pr_marks.specs.Row.{is_before, is_covered, Rises}
+use Rattle.pr_vectors.specs.Vector.{clock_of, Covers, is_covered}
+use Rattle.pr_marks.specs.Row.{Rises}
 use Rattle.pr_marks.specs.Table.{Table, marks_of}
 use Rattle.pr_marks.specs.Pairs.{pairs_with as with_in, pairs_of as of_in}
 use Rattle.pr_story.specs.declared.entry.Entry.{Entry}
 use Rattle.pr_story.specs.Knowledge.{AreConflicts, IsMark, known_mark, mark_at, first_of}
-use Rattle.pr_story.specs.Marking.{MarksRise, is_conflict, pairs_with, pairs_of}
+use Rattle.pr_story.specs.Marking.{MarksRise, pairs_with, pairs_of}
+use Rattle.pr_stamps.specs.Marks.{is_conflict}
 use Rattle.pr_story.proofs.Marking.{conflicts_are, conflicts_same}
 use Rattle.pr_story.proofs.Sorted.{contains_none, first_or_later, is_first, is_later}
 use Rattle.pr_node.specs.Ties.{IsMarksOf, IsMarkInRange}

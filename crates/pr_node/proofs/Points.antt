@@ -14,7 +14,8 @@ use Rattle.pr_story.specs.declared.entry.Entry.{Entry}
 use Rattle.pr_story.specs.declared.event.Event.TheVariants.{Wrote, Accepted}
 use Rattle.pr_story.specs.History.{Accepts, clock_brought, current_clock, current_vector}
 use Rattle.pr_story.specs.Told.{IsTold}
-use Rattle.pr_node.specs.Ties.{AreApart, IsGapsOf}
+use Rattle.pr_node.specs.Ties.{IsGapsOf}
+use Rattle.pr_sets.specs.Sets.{AreApart}
 use Rattle.pr_node.proofs.Clocks.{vector_grows, same_current, join_accepted, raised_is, same_covered}
 
 pub told_step : (n : ℕ) (e : Entry) (j : List Entry) (set : List ℕ → Bool) (p : Point)

@@ -1,7 +1,7 @@
 -- All stores stay tied over an accepted invalidation.
 use Rattle.std.proofs.Common.{◌≡◌, ℕ, inl, inr, List, [], ◌∷◌, cond, refl, sym, ◌∙◌, ap, subst}
 use Rattle.std.specs.Prelude.{Option, Some, None}
-use Rattle.pr_stamps.specs.Point.{Point}
+use Rattle.pr_stamps.specs.Point.{Point, is_this}
 use Rattle.pr_stamps.specs.declared.mark.Mark.{Mark}
 use Rattle.pr_names.specs.Span.{Span}
 use Rattle.pr_inval.specs.declared.kind.Kind.{Kind}
@@ -9,7 +9,6 @@ use Rattle.pr_inval.specs.declared.kind.Kind.TheVariants.{Precise, Imprecise}
 use Rattle.pr_inval.specs.declared.msg.Msg.{Msg}
 use Rattle.pr_inval.specs.declared.row.Row.{Row}
 use Rattle.pr_inval.specs.declared.write_rec.WriteRec.{WriteRec}
-use Rattle.pr_inval.specs.Points.{is_this}
 use Rattle.pr_log.specs.Log.{IsRefined}
 use Rattle.pr_gaps.specs.Gaps.{IsCovered}
 use Rattle.pr_bodies.specs.Bodies.{Held, held, IsSettled}

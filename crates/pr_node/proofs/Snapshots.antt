@@ -6,19 +6,19 @@ use Rattle.std.proofs.lemmas.Bool.Decides.{nat_tests}
 use Rattle.std.proofs.lemmas.List.{get_or_default}
 use Rattle.std.proofs.lemmas.List.Elements.{Contains-append_left, Contains-append_right, Contains-append_cases}
 use Rattle.std.proofs.lemmas.List.Kept.{AllPairs-cons}
-use Rattle.pr_stamps.specs.Point.{Point, Before}
+use Rattle.pr_stamps.specs.Point.{Point, Before, is_before}
 use Rattle.pr_stamps.specs.declared.mark.Mark.{Mark}
 use Rattle.pr_names.specs.Name.{IsName}
 use Rattle.pr_names.specs.Order.{name_lt}
 use Rattle.pr_names.specs.Span.{Span}
-use Rattle.pr_vectors.specs.Vector.{clock_of, Covers}
+use Rattle.pr_vectors.specs.Vector.{clock_of, Covers, is_covered}
 use Rattle.pr_sets.specs.Spans.{has}
 use Rattle.pr_inval.specs.declared.kind.Kind.{Kind}
 use Rattle.pr_inval.specs.declared.kind.Kind.TheVariants.{Precise, Imprecise, Checkpoint, Body}
 use Rattle.pr_inval.specs.declared.row.Row.{Row}
 use Rattle.pr_gaps.specs.Gaps.{Told, set_at, set_or}
-use Rattle.pr_marks.specs.declared.newest.Newest.{Newest}
-use Rattle.pr_marks.specs.Row.{is_before, is_covered, Rises}
+use Rattle.pr_stamps.specs.declared.newest.Newest.{Newest}
+use Rattle.pr_marks.specs.Row.{Rises}
 use Rattle.pr_marks.specs.Table.{Table, marks_of, names_of, newest_of}
 use Rattle.pr_snap.proofs.Names.{Rise}
 use Rattle.pr_snap.specs.Build.{IsBuilt, IsPreciseName, row_in, row_with, rows_at}
@@ -26,10 +26,11 @@ use Rattle.pr_story.specs.declared.entry.Entry.{Entry}
 use Rattle.pr_story.specs.History.{current_clock, current_vector}
 use Rattle.pr_story.specs.Knowledge.{IsMark, WasNamed, floor_of, first_of, known_mark, mark_at}
 use Rattle.pr_story.specs.Search.{IsNewestOf}
-use Rattle.pr_story.specs.Told.{IsPrecise, first_with, rest_of, set_of}
+use Rattle.pr_story.specs.Told.{IsPrecise}
+use Rattle.pr_sets.specs.Sets.{first_with, rest_of, set_of, AreApart}
 use Rattle.pr_story.specs.Turns.{IsSnapshot, IsSnapshotRow}
 use Rattle.pr_story.proofs.Sorted.{contains_none, first_or_later, is_first, is_later}
-use Rattle.pr_node.specs.Ties.{AreApart, IsGapsOf, IsMarksOf, named}
+use Rattle.pr_node.specs.Ties.{IsGapsOf, IsMarksOf}
 use Rattle.pr_snap.proofs.Choice.{by_test}
 use Rattle.pr_node.proofs.Clocks.{below_or_not, clock_out}
 use Rattle.pr_node.proofs.Marked.{is_at}
@@ -234,7 +235,7 @@ before_tells s t e = grind (arith, nat_tests)
 
 snapshot_row : (j : List Entry) (m : Table) (target : List Span) (row : Row) → IsMarksOf j m → IsRowOf m target row → IsSnapshotRow j target row
 snapshot_row j m target row f r =
-    let newest : IsNewestOf j row.name (Some (record { stamp = row.newest; gone = row.gone })) = subst (λ (x : Option Newest). IsNewestOf j row.name (named x)) r.newest (f.newest row.name) in
+    let newest : IsNewestOf j row.name (Some (record { stamp = row.newest; gone = row.gone })) = subst (λ (x : Option Newest). IsNewestOf j row.name x) r.newest (f.newest row.name) in
     record {
       outside = r.outside;
       newest = newest.0;
@@ -246,7 +247,7 @@ snapshot_row j m target row f r =
 named_known : (j : List Entry) (m : Table) (o : List ℕ) (t : Point) → IsMarksOf j m → WasNamed j o t → (n : Newest) × (newest_of m o ≡ Some n)
 named_known j m o t f w = by (newest_of m o) (f.newest o)
   where
-    by : (newest : Option Newest) → IsNewestOf j o (named newest) → (n : Newest) × (newest ≡ Some n)
+    by : (newest : Option Newest) → IsNewestOf j o newest → (n : Newest) × (newest ≡ Some n)
     by None none = absurd (none t w)
     by (Some n) some = (n, refl)
 

@@ -4,7 +4,7 @@ use Rattle.std.specs.Prelude.{Bool, Option, None, Some, All, AllPairs, Contains}
 use Rattle.std.specs.List.{AllByRecursion}
 use Rattle.std.proofs.lemmas.Bool.Decides.{nat_tests}
 use Rattle.std.proofs.lemmas.List.Elements.{All-contains, All-from_recursion}
-use Rattle.pr_stamps.specs.Point.{Point, Before, IsStamp}
+use Rattle.pr_stamps.specs.Point.{Point, Before, IsStamp, IsPrev}
 use Rattle.pr_stamps.specs.declared.mark.Mark.{Mark}
 use Rattle.pr_names.specs.Span.{Span}
 use Rattle.pr_sets.specs.Spans.{has}
@@ -30,7 +30,7 @@ use Rattle.pr_story.specs.Turns.{IsTurn, SendTurn, IsSnapshot, IsSnapshotRow}
 use Rattle.pr_story.proofs.Basics.{clock_zero}
 use Rattle.pr_story.proofs.Known.{known_told, held_how}
 use Rattle.pr_story.proofs.Naming.{TellsMark, WasToldMark, known_mark_told}
-use Rattle.pr_inval.specs.Messages.{AreInOrder, IsCheckpoint, IsEarlierMark, IsEarlierRow, IsKind, IsMark as IsMarkOfRow, IsMessage, IsPrev, IsRow}
+use Rattle.pr_inval.specs.Messages.{IsAscending, IsCheckpoint, IsEarlierMark, IsEarlierRow, IsKind, IsMark as IsMarkOfRow, IsMessage, IsRow}
 use Rattle.pr_node.specs.Grammar.{HasBytes, IsSpelled, IsSpelledEvent, IsStepSpelled}
 use Rattle.pr_node.specs.Ties.{IsMarkInRange}
 use Rattle.pr_node.proofs.Clocks.{vector_grows}
@@ -313,7 +313,7 @@ marks_of_row : (floor to : List ℕ) (row : Row) (marks : List Mark) → ((m : M
 marks_of_row floor to row [] each = tt
 marks_of_row floor to row (m ∷ ms) each = (each m (0, omega arith, refl), marks_of_row floor to row ms (λ x c. each x (suc c.0, omega (arith, c.1), c.2)))
 
-rises_by : {A : Type 0} (R : A → A → Type 0) (xs : List A) → AllPairs R xs → AreInOrder R xs
+rises_by : {A : Type 0} (R : A → A → Type 0) (xs : List A) → AllPairs R xs → IsAscending R xs
 rises_by R [] all = tt
 rises_by R (x ∷ []) all = (tt, tt)
 rises_by R (x ∷ y ∷ xs) all = (all 0 1 x (omega arith) (omega arith), rises_by R (y ∷ xs) (λ i k d lt within. all (suc i) (suc k) d (omega arith) (omega arith)))

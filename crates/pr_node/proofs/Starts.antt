@@ -7,7 +7,8 @@ use Rattle.pr_names.specs.Span.{Span}
 use Rattle.pr_vectors.specs.Vector.{IsVector, clock_of, meet_of}
 use Rattle.pr_vectors.proofs.Vectors.{clock_of-vector_of, length-vector_of}
 use Rattle.pr_sets.specs.Spans.{has, Meet}
-use Rattle.pr_gaps.specs.Gaps.{Told, IsLastPrecise, IsTold as IsToldIn, rest_of, set_at, set_or}
+use Rattle.pr_gaps.specs.Gaps.{Told, IsLastPrecise, IsTold as IsToldIn, set_at, set_or}
+use Rattle.pr_sets.specs.Sets.{rest_of}
 use Rattle.pr_story.specs.declared.entry.Entry.{Entry}
 use Rattle.pr_story.specs.History.{current_clock}
 use Rattle.pr_story.specs.Told.{IsStart, IsTold}

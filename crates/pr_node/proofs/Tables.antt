@@ -4,50 +4,48 @@ use Rattle.std.specs.Prelude.{All, Bool, true, false, ◌&&◌, Option, Some, No
 use Rattle.std.specs.Str.{bytes_eq}
 use Rattle.std.proofs.lemmas.Slice.Eq.{bytes_eq-Decides}
 use Rattle.std.proofs.lemmas.Bool.Decides.{nat_tests}
-use Rattle.pr_stamps.specs.Point.{Point}
+use Rattle.pr_stamps.specs.Point.{Point, is_before, is_this}
 use Rattle.pr_stamps.specs.declared.mark.Mark.{Mark}
-use Rattle.pr_vectors.specs.Vector.{join_of, zero_vector}
+use Rattle.pr_vectors.specs.Vector.{join_of, zero_vector, is_covered}
 use Rattle.pr_inval.specs.declared.write_rec.WriteRec.{WriteRec}
-use Rattle.pr_inval.specs.Points.{is_this}
-use Rattle.pr_marks.specs.declared.newest.Newest.{Newest}
-use Rattle.pr_marks.specs.Row.{is_before, is_covered, Rises, with_mark}
+use Rattle.pr_stamps.specs.declared.newest.Newest.{Newest}
+use Rattle.pr_marks.specs.Row.{Rises, with_mark}
 use Rattle.pr_marks.specs.Table.{Table, newest_of, marks_of, raised_to, IsMarked}
 use Rattle.pr_marks.proofs.Placed.{rises_with}
 use Rattle.pr_story.specs.declared.entry.Entry.{Entry}
-use Rattle.pr_story.specs.declared.plain.named.Named.{Named}
 use Rattle.pr_story.specs.Knowledge.{first_of, floor_after, floor_of, known_mark, mark_of, mark_told}
 use Rattle.pr_story.specs.Search.{later_of, IsOnly, IsNewestIn, IsNewestOf}
 use Rattle.pr_story.proofs.NewestNow.{first_none, newest_more}
-use Rattle.pr_node.specs.Ties.{IsMarksOf, IsMarkInRange, named}
+use Rattle.pr_node.specs.Ties.{IsMarksOf, IsMarkInRange}
 use Rattle.pr_snap.proofs.Choice.{by_test}
 use Rattle.pr_node.proofs.Clocks.{floor_same}
 use Rattle.pr_node.proofs.Marked.{IsKept, here, kept_more, all_with}
 
-pub named_raised : (n : Option Newest) (x : Newest) → named (Some (raised_to n x)) ≡ later_of (named n) (named (Some x))
-named_raised None x = refl
-named_raised (Some m) x = by_test (is_before m.stamp x.stamp) (λ e. rw e refl) (λ e. rw e refl)
+pub newest_raised : (n : Option Newest) (x : Newest) → Some (raised_to n x) ≡ later_of n (Some x)
+newest_raised None x = refl
+newest_raised (Some m) x = by_test (is_before m.stamp x.stamp) (λ e. rw e refl) (λ e. rw e refl)
 
-pub later_none : (n : Option Named) → n ≡ later_of n None
+pub later_none : (n : Option Newest) → n ≡ later_of n None
 later_none None = refl
 later_none (Some x) = refl
 
 -- ---- one write's mark
 
 newest_marked : (e : Entry) (j : List Entry) (a b : Table) (write : WriteRec) (o : List ℕ)
-    → IsNewestOf j o (named (newest_of a o)) → IsMarked a b write.name (mark_of write) write.gone
-    → ((r : Option Named) → IsOnly write o r → IsNewestIn e.event o r)
-    → IsNewestOf (e ∷ j) o (named (newest_of b o))
+    → IsNewestOf j o (newest_of a o) → IsMarked a b write.name (mark_of write) write.gone
+    → ((r : Option Newest) → IsOnly write o r → IsNewestIn e.event o r)
+    → IsNewestOf (e ∷ j) o (newest_of b o)
 newest_marked e j a b write o old marked only =
     let new : Newest = record { stamp = write.stamp; gone = write.gone } in
     by_test (bytes_eq write.name o)
     (λ t.
     let name : write.name ≡ o = (bytes_eq-Decides write.name o).0 t in
     let is : newest_of b o ≡ Some (raised_to (newest_of a o) new) = marked.newest o ∙ ap (λ (q : Bool). cond q (Some (raised_to (newest_of a write.name) new)) (newest_of a o)) t ∙ ap (λ (x : List ℕ). Some (raised_to (newest_of a x) new)) name in
-    newest_more e j o (named (newest_of a o)) (named (Some new)) (named (newest_of b o)) (ap named is ∙ named_raised (newest_of a o) new) old (only (named (Some new)) (name, refl, refl)))
+    newest_more e j o (newest_of a o) (Some new) (newest_of b o) (is ∙ newest_raised (newest_of a o) new) old (only (Some new) (name, refl, refl)))
     (λ t.
     let other : write.name ≢ o = λ name. let bad : bytes_eq write.name o ≡ true = (bytes_eq-Decides write.name o).1 name in cc in
     let is : newest_of b o ≡ newest_of a o = marked.newest o ∙ ap (λ (q : Bool). cond q (Some (raised_to (newest_of a write.name) new)) (newest_of a o)) t in
-    newest_more e j o (named (newest_of a o)) None (named (newest_of b o)) (ap named is ∙ later_none (named (newest_of a o))) old (only None other))
+    newest_more e j o (newest_of a o) None (newest_of b o) (is ∙ later_none (newest_of a o)) old (only None other))
 
 marks_marked : (j : List Entry) (a b : Table) (write : WriteRec) (o : List ℕ) (s : Point) (told : Option Mark)
     → IsMarksOf j a → IsMarked a b write.name (mark_of write) write.gone → told ≡ cond (is_this write.name write.stamp o s) (Some (mark_of write)) None
@@ -84,7 +82,7 @@ none_at_zero write o s one zero = by_clock (bytes_eq write.name o) write.stamp s
 -- a write's mark is known, and its stamp
 pub write_marked : (e : Entry) (j : List Entry) (a b : Table) (write : WriteRec)
     → IsMarksOf j a → IsMarked a b write.name (mark_of write) write.gone → IsMarkInRange (mark_of write)
-    → ((o : List ℕ) (r : Option Named) → IsOnly write o r → IsNewestIn e.event o r)
+    → ((o : List ℕ) (r : Option Newest) → IsOnly write o r → IsNewestIn e.event o r)
     → ((o : List ℕ) (s : Point) → mark_told e.event o s ≡ cond (is_this write.name write.stamp o s) (Some (mark_of write)) None)
     → floor_after e.event ≡ zero_vector
     → IsMarksOf (e ∷ j) b
@@ -102,7 +100,7 @@ pub same_marks : (e : Entry) (j : List Entry) (m : Table) → IsMarksOf j m → 
     → ((o : List ℕ) → IsNewestIn e.event o None) → ((o : List ℕ) (s : Point) → mark_told e.event o s ≡ None) → IsMarksOf (e ∷ j) m
 same_marks e j m f floor names told = record {
   floor = f.floor ∙ sym (ap (λ (v : List ℕ). join_of (floor_of j) v) floor ∙ floor_same j);
-  newest = λ o. newest_more e j o (named (newest_of m o)) None (named (newest_of m o)) (later_none (named (newest_of m o))) (f.newest o) (names o);
+  newest = λ o. newest_more e j o (newest_of m o) None (newest_of m o) (later_none (newest_of m o)) (f.newest o) (names o);
   rises = f.rises;
   in_range = f.in_range;
   from_one = λ o s zero. ap (λ (x : Option Mark). first_of x (mark_told e.event o s)) (f.from_one o s zero) ∙ told o s;

@@ -1,6 +1,6 @@
 -- All stores stay tied over an own write, and over an event that tells its node of nothing.
 use Rattle.std.proofs.Common.{◌≡◌, ℕ, inl, List, ◌∷◌, refl, ◌∙◌, subst, length, ◌≤◌}
-use Rattle.pr_stamps.specs.Point.{IsStamp}
+use Rattle.pr_stamps.specs.Point.{IsStamp, IsPrev}
 use Rattle.pr_stamps.specs.declared.mark.Mark.{Mark}
 use Rattle.pr_inval.specs.declared.write_rec.WriteRec.{WriteRec}
 use Rattle.pr_log.specs.Log.{IsAddedOwn}
@@ -13,7 +13,6 @@ use Rattle.pr_story.proofs.NewestNow.{wrote_newest}
 use Rattle.pr_node.specs.declared.stores.Stores.{Stores}
 use Rattle.pr_node.specs.Ties.{IsTied}
 use Rattle.pr_node.specs.Writes.{IsBodyKept}
-use Rattle.pr_inval.specs.Messages.{IsPrev}
 use Rattle.pr_node.proofs.Logs.{wrote_log}
 use Rattle.pr_node.proofs.Points.{wrote_gaps}
 use Rattle.pr_node.proofs.Held.{body_step, settled_by}

@@ -7,7 +7,7 @@ use Rattle.pr_names.specs.Order.{name_lt}
 use Rattle.pr_inval.specs.declared.kind.Kind.{Kind}
 use Rattle.pr_inval.specs.declared.kind.Kind.TheVariants.{Precise, Imprecise, Checkpoint, Body}
 use Rattle.pr_inval.specs.Standing.{Standing}
-use Rattle.pr_marks.specs.declared.newest.Newest.{Newest}
+use Rattle.pr_stamps.specs.declared.newest.Newest.{Newest}
 use Rattle.pr_marks.specs.Table.{Table, is_after, names_of, newest_of}
 use Rattle.pr_snap.proofs.Names.{Rise}
 use Rattle.pr_story.specs.declared.entry.Entry.{Entry}
@@ -15,7 +15,7 @@ use Rattle.pr_story.specs.Search.{IsNewestOf}
 use Rattle.pr_story.specs.Sending.{HasBody, IsBodyOf}
 use Rattle.pr_story.specs.Turns.{IsBodyToSend}
 use Rattle.pr_node.specs.Sending.{IsNextBodyOf}
-use Rattle.pr_node.specs.Ties.{IsMarksOf, named}
+use Rattle.pr_node.specs.Ties.{IsMarksOf}
 use Rattle.pr_snap.proofs.Choice.{by_test}
 use Rattle.pr_snap.proofs.Found.{found_first, none_found}
 use Rattle.pr_snap.proofs.KnownNames.{is_next, is_next_of}
@@ -26,7 +26,7 @@ use Rattle.pr_snap.proofs.NameOrder.{not_itself, one_way}
 pub body_known : (j : List Entry) (m : Table) (session : Standing) (o : List ℕ) → IsMarksOf j m → HasBody j session o → Contains (names_of m) o
 body_known j m session o f b = by (newest_of m o) refl (f.newest o)
   where
-    by : (newest : Option Newest) → newest_of m o ≡ newest → IsNewestOf j o (named newest) → Contains (names_of m) o
+    by : (newest : Option Newest) → newest_of m o ≡ newest → IsNewestOf j o newest → Contains (names_of m) o
     by None is none = absurd (none b.0 b.2.1.0)
     by (Some n) is some = newest_held m o (lookup (bytes_eq o) m.rows) n refl is
 

@@ -1,6 +1,6 @@
 -- Journals that tell of nothing but what the grammar of messages allows (docs/WIRE.md).
 use Rattle.std.specs.Prelude.{List, [], ◌∷◌, ◌≡◌, ◌≤◌, length}
-use Rattle.pr_stamps.specs.Point.{IsStamp}
+use Rattle.pr_stamps.specs.Point.{IsStamp, IsPrev}
 use Rattle.pr_inval.specs.declared.kind.Kind.{Kind}
 use Rattle.pr_inval.specs.declared.kind.Kind.TheVariants.{Body}
 use Rattle.pr_inval.specs.declared.step.Step.{Step}
@@ -10,7 +10,7 @@ use Rattle.pr_story.specs.declared.event.Event.{Event}
 use Rattle.pr_story.specs.declared.event.Event.TheVariants.{Wrote, Accepted, Cut}
 use Rattle.pr_story.specs.History.{current_vector}
 use Rattle.pr_story.specs.Ranges.{IsBytes}
-use Rattle.pr_inval.specs.Messages.{IsKind, IsMessage, IsPrev}
+use Rattle.pr_inval.specs.Messages.{IsKind, IsMessage}
 
 -- what the event tells after the journal j: a write past the newest one that it follows, with a body of at most 65,536
 -- bytes; a message of the grammar; or a cut at the vector

@@ -9,7 +9,7 @@ use Rattle.pr_inval.specs.declared.row.Row.{Row}
 use Rattle.pr_inval.specs.Points.{from_of}
 use Rattle.pr_bodies.specs.Bodies.{Held, held, IsPut, IsSettled}
 use Rattle.pr_marks.specs.Table.{Table, newest_of}
-use Rattle.pr_marks.specs.declared.newest.Newest.{Newest}
+use Rattle.pr_stamps.specs.declared.newest.Newest.{Newest}
 use Rattle.pr_story.specs.declared.entry.Entry.{Entry}
 use Rattle.pr_story.specs.declared.event.Event.TheVariants.{Accepted}
 use Rattle.pr_story.specs.Lawful.{has_from}

@@ -2,22 +2,22 @@
 use Rattle.std.specs.Prelude.{All, AllPairs, ℕ, List, ◌≡◌, ◌↔◌, ◌≤◌, ◌<◌, IsTrue, cond, Option, Some, None, length}
 use Rattle.pr_stamps.specs.Point.{Point, Before, IsStamp}
 use Rattle.pr_stamps.specs.declared.mark.Mark.{Mark}
+use Rattle.pr_sets.specs.Sets.{AreApart}
 use Rattle.pr_names.specs.Name.{IsName}
 use Rattle.pr_names.specs.Span.{Span}
 use Rattle.pr_sets.specs.Spans.{has, Meet}
-use Rattle.pr_vectors.specs.Vector.{Covers}
+use Rattle.pr_vectors.specs.Vector.{Covers, is_covered}
 use Rattle.pr_inval.specs.declared.write_rec.WriteRec.{WriteRec}
 use Rattle.pr_log.specs.Log.{Logged, is_lit, Knows as KnowsIn}
 use Rattle.pr_gaps.specs.Gaps.{Told, IsTold as IsToldIn, set_at}
 use Rattle.pr_bodies.specs.Bodies.{Held, held}
-use Rattle.pr_marks.specs.declared.newest.Newest.{Newest}
-use Rattle.pr_marks.specs.Row.{Rises, is_covered}
+use Rattle.pr_stamps.specs.declared.newest.Newest.{Newest}
+use Rattle.pr_marks.specs.Row.{Rises}
 use Rattle.pr_marks.specs.Table.{Table, newest_of, marks_of}
 use Rattle.pr_story.specs.declared.entry.Entry.{Entry}
 use Rattle.pr_story.specs.History.{current_vector}
 use Rattle.pr_story.specs.Told.{IsTold, IsLit}
 use Rattle.pr_story.specs.Knowledge.{Knows, WasNamed, known_mark, mark_at, held_body, cuts_of, floor_of}
-use Rattle.pr_story.specs.declared.plain.named.Named.{Named}
 use Rattle.pr_story.specs.Ranges.{IsStampOrNone}
 use Rattle.pr_story.specs.Search.{IsNewestOf}
 use Rattle.pr_node.specs.declared.stores.Stores.{Stores}
@@ -31,10 +31,6 @@ pub record IsLogOf (n : ℕ) (j : List Entry) (m : Logged) : Type 0 where
   pub lit : (o : List ℕ) (p : Point) → IsName o → ¬ Covers m.cut p → IsTrue (is_lit m o p) ↔ IsLit n j o p
   pub knows : (x : WriteRec) → ¬ Covers m.cut x.stamp → KnowsIn m x ↔ Knows j x
 
--- no two of the sets share a name
-abbrev pub AreApart : List (List Span) → Type 0
-AreApart sets = AllPairs (λ (a : List Span) (b : List Span). ¬ Meet (has a) (has b)) sets
-
 pub record IsGapsOf (n : ℕ) (j : List Entry) (g : Told) : Type 0 where
   pub own : g.node ≡ n
   pub vector : g.vector ≡ current_vector j
@@ -45,17 +41,12 @@ pub record IsGapsOf (n : ℕ) (j : List Entry) (g : Told) : Type 0 where
 pub record IsBodiesOf (j : List Entry) (b : Held) : Type 0 where
   pub bodies : (o : List ℕ) (t : Point) → ((s : Point) → WasNamed j o s → ¬ Before t s) → held b o t ≡ held_body j o t
 
--- the table's newest stamp, in the words of a history
-abbrev pub named : Option Newest → Option Named
-named None = None
-named (Some newest) = Some (record { stamp = newest.stamp; gone = newest.gone })
-
 abbrev pub IsMarkInRange : Mark → Type 0
 IsMarkInRange mark = IsStamp mark.stamp × IsStampOrNone mark.prev
 
 pub record IsMarksOf (j : List Entry) (m : Table) : Type 0 where
   pub floor : m.floor ≡ floor_of j
-  pub newest : (o : List ℕ) → IsNewestOf j o (named (newest_of m o))
+  pub newest : (o : List ℕ) → IsNewestOf j o (newest_of m o)
   pub rises : (o : List ℕ) → Rises (marks_of m o)
   pub in_range : (o : List ℕ) → All IsMarkInRange (marks_of m o)
   pub from_one : (o : List ℕ) (s : Point) → s.clock ≡ 0 → known_mark j o s ≡ None

@@ -1,14 +1,13 @@
 -- A node's own writes.
 use Rattle.std.specs.Prelude.{ℕ, List, Bool, ◌≡◌, ◌<◌, ◌+◌, ◌&&◌, not, cond, None, Some}
 use Rattle.std.specs.Str.{bytes_eq}
-use Rattle.pr_stamps.specs.Point.{Point}
-use Rattle.pr_bodies.specs.Bodies.{Held, held, is_before, is_this}
+use Rattle.pr_stamps.specs.Point.{Point, is_before, is_this, IsPrev}
+use Rattle.pr_bodies.specs.Bodies.{Held, held}
 use Rattle.pr_inval.specs.declared.write_rec.WriteRec.{WriteRec}
 use Rattle.pr_story.specs.declared.entry.Entry.{Entry}
 use Rattle.pr_story.specs.History.{current_clock}
 use Rattle.pr_story.specs.Knowledge.{IsNewestKnown}
 use Rattle.pr_story.specs.Ranges.{IsWrite}
-use Rattle.pr_inval.specs.Messages.{IsPrev}
 
 -- the write that node n makes next
 pub record IsNextOwn (n : ℕ) (j : List Entry) (name : List ℕ) (gone : Bool) (write : WriteRec) : Type 0 where

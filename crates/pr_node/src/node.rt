@@ -7,7 +7,7 @@ ghost use Rattle.pr_node.specs.Answering.{IsAnswerAt, reply_of};
 ghost use Rattle.pr_node.specs.Calls.{AddsAlone, AddsOfClient, AddsOfStream, IsAttachedAt, IsCheckpointSent, IsDone, IsDownFor, IsFault, IsMissed, IsMoveOf, IsSeen, IsStateEvent, IsStep, IsTaken, IsTimeWorn, IsWriteWorn};
 ghost use Rattle.pr_node.specs.Grammar.{IsStepSpelled};
 ghost use Rattle.pr_node.specs.Stored.{means};
-ghost use Rattle.pr_node.specs.Ties.{AreApart};
+ghost use Rattle.pr_sets.specs.Sets.{AreApart};
 ghost use Rattle.pr_story.specs.History.{current_vector};
 ghost use Rattle.pr_story.specs.declared.event.Event.TheVariants.{Conflicts, Cut, Dropped};
 ghost use Rattle.pr_vectors.specs.Vector.{IsVector};

@@ -1,13 +1,13 @@
 // A client's write.
 ghost use Rattle.pr_node.specs.Writes.{IsBodyKept, IsClockWornIn, IsNextOwn};
-ghost use Rattle.pr_marks.specs.declared.newest.Newest.{Newest};
+ghost use Rattle.pr_stamps.specs.declared.newest.Newest.{Newest};
 ghost use Rattle.pr_node.specs.Ties.{IsTied};
 ghost use Rattle.pr_story.specs.Knowledge.{mark_of};
 ghost use Rattle.pr_story.specs.Ranges.{IsStampOrNone};
 ghost use Rattle.pr_story.specs.declared.entry.Entry.{Entry};
 ghost use Rattle.pr_story.specs.declared.event.Event.TheVariants.{Wrote};
 ghost use Rattle.pr_vectors.specs.Vector.{clock_of};
-ghost use Rattle.pr_inval.specs.Messages.{IsPrev};
+ghost use Rattle.pr_stamps.specs.Point.{IsPrev};
 ghost use Rattle.std.specs.Option.{option_map};
 ghost use Rattle.std.specs.Prelude.{◌≡◌, ◌<◌, ◌≤◌, ◌∷◌, ℕ, List, None, IfSome, OnOk, length};
 

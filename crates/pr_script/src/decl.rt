@@ -1,10 +1,7 @@
 // Declarations.
 
 use pr_sets::NameSet;
-use pr_stamps::Seq;
-
-/// Bytes in a list that keeps its allocator.
-pub type Bytes = Seq<u8>;
+use pr_stamps::{Bytes, Seq};
 
 /// A declared node, client or stream. Each kind counts from 0 in the order of declaration; docs/SCRIPT.md has the lines.
 #[derive(Drop)]

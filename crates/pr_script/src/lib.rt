@@ -35,7 +35,7 @@ mod want;
 mod word;
 
 pub use command::Command;
-pub use decl::{Bytes, Decl, Decls};
+pub use decl::{Decl, Decls};
 pub use fault::ScriptFault;
 pub use kind::Kind;
 pub use labels::{is_kind, label_at, label_of};
@@ -44,6 +44,7 @@ pub use law::{
     scripts_have_one_meaning, sets_share_a_name_where_intervals_overlap, steps_follow_the_commands,
 };
 pub use owner::{Owner, is_same_owner, owner_of, owners, phase_len};
+pub use pr_stamps::Bytes;
 pub use printer::{print, print_decls};
 pub use reader::{Reader, read};
 pub use script::Script;

@@ -1,4 +1,5 @@
 pub mod Spans
+pub mod Sets
 pub mod Ends
 pub mod Joining
 pub mod Text

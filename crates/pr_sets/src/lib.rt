@@ -19,4 +19,5 @@ mod union;
 
 pub use fault::SetFault;
 pub use law::{lists_have_the_names_of_their_parts, printed_sets_read_back, same_names_same_list};
+pub use lookup::begun_by;
 pub use name_set::NameSet;

@@ -1,4 +1,5 @@
 // Looking a name up among intervals.
+ghost use Rattle.pr_names.specs.Name.{IsName};
 ghost use Rattle.pr_names.specs.Order.{name_lt};
 ghost use Rattle.pr_names.specs.Span.{Span};
 ghost use Rattle.pr_sets.specs.Spans.{IsSet, has};
@@ -16,10 +17,11 @@ pub fn has(parts: &[Interval], name: &Name) -> bool
     begun > 0 && parts[begun - 1].hi().is_above(name)
 }
 
-// How many intervals begin with the name or before it.
-fn begun_by(parts: &[Interval], name: &Name) -> usize
+/// How many intervals of a set begin with the name or before it. It takes time logarithmic in their number.
+pub fn begun_by(parts: &[Interval], name: &Name) -> usize
     requires { IsSet parts.now }
     ensures most { result ≤ length parts.now }
+    ensures name { IsName name.now }
     ensures begun { (i : ℕ) (d : Span) → i < result → name_lt name.now (slice_index_or parts.now i d).lo ≡ false }
     ensures later { (i : ℕ) (d : Span) → result ≤ i → i < length parts.now → name_lt name.now (slice_index_or parts.now i d).lo ≡ true }
 {

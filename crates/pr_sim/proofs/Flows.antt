@@ -30,7 +30,7 @@ use Rattle.pr_story.specs.Places.{sent_places}
 use Rattle.pr_story.specs.Scripts.{AreTurns, events_of}
 use Rattle.pr_story.specs.Sessions.{HasGoneOn}
 use Rattle.pr_story.specs.Turns.{IsAttached, event_of, is_of_stream}
-use Rattle.pr_wire.specs.Messages.{IsMessage}
+use Rattle.pr_inval.specs.Messages.{IsMessage}
 use Rattle.pr_wires.specs.Calls.{WireState}
 use Rattle.pr_sim.specs.Commands.{Grows, IsCause, IsTurnMade, MakesOne}
 use Rattle.pr_sim.specs.Flowing.{CanGoDown, IsBegun, IsDownMade, IsOnTheWay, LeadsTo, TurnsEnd}

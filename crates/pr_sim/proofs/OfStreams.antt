@@ -24,7 +24,7 @@ use Rattle.pr_story.specs.Laws.{StandsFor}
 use Rattle.pr_story.specs.Scripts.{Detach, Single, attached_after}
 use Rattle.pr_story.specs.Turns.{Attaches, IsAttached, count_after, position_after, sent_after, event_of, is_of_stream, is_timed, is_with_session, stream_time}
 use Rattle.pr_story.proofs.Short.{valid_short}
-use Rattle.pr_wire.specs.Messages.{IsMessage}
+use Rattle.pr_inval.specs.Messages.{IsMessage}
 use Rattle.pr_sim.specs.Commands.{GivesIt, IsCheckpointOf, IsStepOf, MakesOne}
 use Rattle.pr_sim.specs.Running.{AreClients, AreNodes, AreRoutes, AreSent, AreSessions, Declared, IsRunning, IsSession, Stands}
 use Rattle.pr_story.specs.Places as story

@@ -13,7 +13,7 @@ use Rattle.pr_story.specs.declared.event.Event.TheVariants.{Wrote, Attached, Sen
 use Rattle.pr_story.specs.History.{Plan, NodeEntry, journal, Sends}
 use Rattle.pr_story.specs.Clients.{is_of_client, is_with_needs, node_after, seen_after, client_node, client_vector}
 use Rattle.pr_story.specs.Turns.{is_of_stream, is_with_session, is_timed, is_body, count_after, position_after, position, sent_after, sent_count, has_sent, stream_time}
-use Rattle.pr_wire.specs.Messages.{IsMessage}
+use Rattle.pr_inval.specs.Messages.{IsMessage}
 use Rattle.pr_story.specs.Places as story
 use Rattle.pr_story.specs.Places.{sent_places}
 use Rattle.pr_sim.specs.Running.{AreClients, AreSent, AreSessions, IsSession}

@@ -21,7 +21,7 @@ use Rattle.pr_story.specs.Commands.{Gives, ToDeliver}
 use Rattle.pr_story.specs.History.{Plan, NodeEntry, Sends, WasSent, journal}
 use Rattle.pr_story.specs.Lawful.{HasCause, IsPlaced}
 use Rattle.pr_story.specs.Turns.{count_after, position_after, sent_after, is_of_stream, is_timed, is_with_session, standing, position, sent_count, has_sent, stream_time}
-use Rattle.pr_wire.specs.Messages.{IsMessage}
+use Rattle.pr_inval.specs.Messages.{IsMessage}
 use Rattle.pr_sim.specs.Commands.{GivesIt, IsTakingMade, MakesOne}
 use Rattle.pr_sim.specs.Running.{AreClients, AreRoutes, AreSent, AreSessions, Declared, IsRunning, IsSession, Stands}
 use Rattle.pr_sim.specs.Messages.{IsPlace, IsSentAt}

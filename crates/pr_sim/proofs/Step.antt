@@ -16,7 +16,7 @@ use Rattle.pr_story.specs.Lawful.{HasCause, IsOwnLawful, IsPlaced, Valid}
 use Rattle.pr_story.specs.Laws.{StandsFor}
 use Rattle.pr_story.specs.Turns.{is_with_session}
 use Rattle.pr_story.proofs.OneMore.{one_more}
-use Rattle.pr_wire.specs.Messages.{IsMessage}
+use Rattle.pr_inval.specs.Messages.{IsMessage}
 use Rattle.pr_story.specs.Places.{places_of}
 use Rattle.pr_sim.specs.Running.{AreNodes, IsNode, Stands}
 use Rattle.pr_sim.specs.declared.engine.Engine.{Engine}

@@ -18,7 +18,7 @@ use Rattle.pr_node.specs.Calls.{IsTaken}
 use Rattle.pr_story.specs.Commands.{Command, Gives, IsCheckpoint, IsNoCheckpoint}
 use Rattle.pr_story.specs.declared.event.Event.TheVariants.{Sent}
 use Rattle.pr_story.specs.Turns.{event_of}
-use Rattle.pr_wire.specs.Messages.{IsMessage}
+use Rattle.pr_inval.specs.Messages.{IsMessage}
 use Rattle.pr_story.specs.History.{NodeEntry}
 use Rattle.pr_story.specs.Scripts.{JobAfterJob, Line, LineBegins, LineGives, Single, attached_after}
 use Rattle.pr_sim.specs.Running.{Declared, IsRunning, Tells, below}

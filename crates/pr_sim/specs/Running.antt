@@ -13,7 +13,7 @@ use Rattle.pr_story.specs.Lawful.{Valid}
 use Rattle.pr_story.specs.Laws.{StandsFor}
 use Rattle.pr_story.specs.Clients.{client_node, client_vector}
 use Rattle.pr_story.specs.Turns.{IsAttached}
-use Rattle.pr_wire.specs.Messages.{IsMessage}
+use Rattle.pr_inval.specs.Messages.{IsMessage}
 use Rattle.pr_story.specs.Places.{places_of, sent_places}
 use Rattle.pr_sim.specs.declared.engine.Engine.{Engine}
 use Rattle.pr_sim.specs.declared.engine.Route.{Route}

@@ -6,7 +6,7 @@ ghost use Rattle.pr_sim.specs.Running.{IsKept};
 ghost use Rattle.pr_story.specs.Commands.{ToDeliver};
 ghost use Rattle.pr_story.specs.History.{WasSent};
 ghost use Rattle.pr_story.specs.declared.entry.Entry.{Entry};
-ghost use Rattle.pr_wire.specs.Messages.{IsMessage};
+ghost use Rattle.pr_inval.specs.Messages.{IsMessage};
 ghost use Rattle.std.specs.Prelude.{◌≡◌, ◌≢◌, ◌<◌, length};
 
 use crate::engine::{CALLER, Engine};

@@ -6,7 +6,7 @@ ghost use Rattle.pr_sim.specs.Flowing.{AreFewWires, CanGoDown, FlowEndsSo, IsArr
 ghost use Rattle.pr_sim.specs.Running.{HasAttached, IsKept};
 ghost use Rattle.pr_story.specs.History.{WasSent};
 ghost use Rattle.pr_story.specs.Scripts.{events_of};
-ghost use Rattle.pr_wire.specs.Messages.{IsMessage};
+ghost use Rattle.pr_inval.specs.Messages.{IsMessage};
 ghost use Rattle.std.specs.Prelude.{◌≡◌, ◌<◌, ◌+◌, ℕ, None, Some, length};
 
 use crate::engine::{CALLER, Engine};

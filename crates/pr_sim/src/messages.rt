@@ -3,7 +3,7 @@ ghost use Rattle.pr_inval.specs.declared.msg.Msg.{Msg};
 ghost use Rattle.pr_sim.specs.Messages.{IsPlace, IsSentAt};
 ghost use Rattle.pr_stamps.specs.Kept.{Kept};
 ghost use Rattle.pr_story.specs.Places.{SendsAt};
-ghost use Rattle.pr_wire.specs.Messages.{IsMessage};
+ghost use Rattle.pr_inval.specs.Messages.{IsMessage};
 ghost use Rattle.std.specs.Prelude.{◌≡◌, ◌<◌, ℕ, IfOk, length, slice_index_or};
 
 use crate::engine::node_at;

@@ -1,27 +1,10 @@
 -- What is found first among names in order.
-use Rattle.std.proofs.Common.{◌≡◌, ℕ, ◌<◌, ◌⊎◌, inl, inr, zero, suc, List, [], ◌∷◌, cond, find, get_or, refl, sym, ◌∙◌, ap, subst, arith, length}
+use Rattle.std.proofs.Common.{◌≡◌, ℕ, ◌<◌, ◌⊎◌, inl, inr, zero, suc, List, [], ◌∷◌, cond, find, refl, sym, ◌∙◌, ap, subst, arith, length}
 use Rattle.std.specs.Prelude.{Bool, true, false, IsTrue, Option, None, Some, Contains}
+use Rattle.pr_stamps.proofs.Contained.{contains_none, first_or_later, is_later, is_first}
 use Rattle.pr_names.specs.Order.{name_lt}
 use Rattle.pr_snap.proofs.Names.{Rise}
 use Rattle.pr_snap.proofs.Choice.{by_test}
-
--- ---- what a list contains
-
-pub contains_none : {X : Type 0} (x : X) → Contains [] x → ⊥
-contains_none x c = let bad : c.0 < 0 = c.1 in omega arith
-
-pub first_or_later : {X : Type 0} (y : X) (ys : List X) (x : X) → Contains (y ∷ ys) x → (y ≡ x) ⊎ Contains ys x
-first_or_later y ys x c = by c.0 c.1 c.2
-  where
-    by : (k : ℕ) → k < length (y ∷ ys) → get_or (y ∷ ys) k x ≡ x → (y ≡ x) ⊎ Contains ys x
-    by zero lt e = inl e
-    by (suc k) lt e = inr (k, (omega arith), e)
-
-pub is_later : {X : Type 0} (y : X) (ys : List X) (x : X) → Contains ys x → Contains (y ∷ ys) x
-is_later y ys x c = let lt : c.0 < length ys = c.1 in (suc c.0, omega arith, c.2)
-
-pub is_first : {X : Type 0} (y : X) (ys : List X) → Contains (y ∷ ys) y
-is_first y ys = (zero, omega arith, refl)
 
 -- ---- names in order
 

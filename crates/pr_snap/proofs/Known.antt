@@ -6,11 +6,11 @@ use Rattle.std.specs.Option.{is_some, option_map}
 use Rattle.std.specs.Str.{bytes_eq}
 use Rattle.std.proofs.lemmas.Slice.Eq.{bytes_eq-Decides}
 use Rattle.pr_names.specs.Order.{name_lt}
-use Rattle.pr_marks.specs.declared.newest.Newest.{Newest}
+use Rattle.pr_stamps.specs.declared.newest.Newest.{Newest}
 use Rattle.pr_marks.specs.Row.{Kept}
 use Rattle.pr_marks.specs.Table.{Table, is_after, names_of, newest_of}
 use Rattle.pr_snap.proofs.Choice.{by_test}
-use Rattle.pr_snap.proofs.Found.{contains_none, first_or_later, is_first, is_later}
+use Rattle.pr_stamps.proofs.Contained.{contains_none, first_or_later, is_first, is_later}
 use Rattle.pr_snap.proofs.NameOrder.{lt_trans, not_itself}
 use Rattle.pr_snap.proofs.Names.{Rise, fewer}
 

@@ -9,7 +9,8 @@ use Rattle.pr_inval.specs.declared.row.Row.{Row}
 use Rattle.pr_marks.specs.Table.{Table, is_after, newest_of}
 use Rattle.pr_snap.specs.Build.{row_in, row_with, rows_at}
 use Rattle.pr_snap.proofs.Choice.{by_test}
-use Rattle.pr_snap.proofs.Found.{comes_first, found_is_one, is_first, is_later, names_later}
+use Rattle.pr_snap.proofs.Found.{comes_first, found_is_one, names_later}
+use Rattle.pr_stamps.proofs.Contained.{is_first, is_later}
 use Rattle.pr_snap.proofs.Known.{after_later, fewer_past}
 use Rattle.pr_snap.proofs.NameOrder.{not_itself, one_way}
 use Rattle.pr_snap.proofs.Names.{Rise}

@@ -1,6 +1,7 @@
 -- The part of names that lies in precise sets, and the vector zero.
 use Rattle.std.proofs.Common.{◌≡◌, ℕ, ◌<◌, ◌+◌, ◌⊎◌, List, Bool, true, false, None, Some, refl, sym, ◌∙◌, ap, subst, arith, inl, inr, length}
-use Rattle.std.specs.Prelude.{Result, Ok, Err, IfOk, ◌↔◌, ◌||◌, ◌&&◌, not, IsTrue}
+use Rattle.std.specs.Prelude.{Result, Ok, Err, IfOk, ◌↔◌, ◌&&◌, not, IsTrue}
+use Rattle.pr_stamps.proofs.OneOf.{either, or_first, or_second}
 use Rattle.pr_names.specs.Name.{IsName}
 use Rattle.pr_names.specs.Span.{Span}
 use Rattle.pr_names.proofs.Places.{trichotomy}
@@ -67,17 +68,6 @@ is_precise_part g sub all part below both o name = (there, back)
 
     back : (IsTrue (has sub o) × IsPreciseName g o) → IsTrue (has part o)
     back (s, p) = both.names o name ∙ of_both (has sub o) (has all o) s ((below o name).1 (numbered p))
-
-either : (p q : Bool) → (p || q) ≡ true → (p ≡ true) ⊎ (q ≡ true)
-either true q h = inl refl
-either false q h = inr h
-
-or_first : (p q : Bool) → p ≡ true → (p || q) ≡ true
-or_first p q h = rw h refl
-
-or_second : (p q : Bool) → q ≡ true → (p || q) ≡ true
-or_second true q h = refl
-or_second false q h = h
 
 -- the set of this number is precise, and its names are added
 pub with_set : (g : Told) (i : ℕ) (names set with_ : List Span) → IsLeastUntold g i None → ((o : List ℕ) → IsName o → has set o ≡ set_at g.sets i o) → IsUnion names set with_ → (o : List ℕ) → IsName o → IsTrue (has with_ o) ↔ (IsTrue (has names o) ⊎ IsPreciseAt g o i)

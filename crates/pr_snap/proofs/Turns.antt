@@ -7,9 +7,9 @@ use Rattle.pr_stamps.specs.declared.mark.Mark.{Mark}
 use Rattle.pr_inval.specs.declared.row.Row.{Row}
 use Rattle.pr_gaps.specs.Gaps.{Told, IsCovered}
 use Rattle.pr_names.specs.Span.{Span}
-use Rattle.pr_vectors.specs.Vector.{join_of, zero_vector}
-use Rattle.pr_marks.specs.declared.newest.Newest.{Newest}
-use Rattle.pr_marks.specs.Row.{above_floor, is_covered, with_mark}
+use Rattle.pr_vectors.specs.Vector.{join_of, zero_vector, is_covered}
+use Rattle.pr_stamps.specs.declared.newest.Newest.{Newest}
+use Rattle.pr_marks.specs.Row.{above_floor, with_mark}
 use Rattle.pr_marks.specs.Table.{Table, IsForgotten, IsMarked, IsRaised, marks_of, newest_of, raised_to}
 use Rattle.pr_snap.specs.Apply.{AreMarked, AreRowsTaken, IsApplied, IsRowTaken, marks_among, marks_by, newest_among, newest_by}
 

@@ -3,8 +3,9 @@ use Rattle.std.specs.Prelude.{◌≡◌, ◌≤◌, ◌++◌, ℕ, List, [], ◌
 use Rattle.pr_names.specs.Span.{Span}
 use Rattle.pr_sets.specs.Spans.{IsAllBut, has}
 use Rattle.pr_gaps.specs.Gaps.{Told, IsLeastUntold, set_at}
-use Rattle.pr_marks.specs.declared.newest.Newest.{Newest}
-use Rattle.pr_marks.specs.Table.{Table, NamesRise, marks_of, names_of, newest_of}
+use Rattle.pr_stamps.specs.declared.newest.Newest.{Newest}
+use Rattle.pr_marks.specs.Table.{Table, marks_of, names_of, newest_of}
+use Rattle.pr_names.specs.Order.{NamesRise}
 use Rattle.pr_inval.specs.declared.row.Row.{Row}
 use Rattle.pr_inval.specs.declared.kind.Kind.{Kind}
 use Rattle.pr_inval.specs.declared.kind.Kind.TheVariants.{Precise, Imprecise, Checkpoint, Body}
@@ -33,7 +34,7 @@ pub record IsCheckpointOf (g : Told) (m : Table) (sub : List Span) (to : List �
   pub names : IsAllBut target (λ o. IsTrue (has sub o) × IsPreciseName g o)
   pub floor : by ≡ m.floor
   pub rows : told ≡ rows_at m target (names_of m)
-  pub order : NamesRise m
+  pub order : NamesRise (names_of m)
 
 abbrev pub IsBuilt : Told → Table → List Span → Kind → Type 0
 IsBuilt g m sub (Precise from to write) = ⊥

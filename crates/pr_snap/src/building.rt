@@ -1,6 +1,7 @@
 // The checkpoint of a node.
 ghost use Rattle.pr_gaps.specs.Gaps.{IsLeastUntold, set_at};
-ghost use Rattle.pr_marks.specs.Table.{NamesRise, names_of, newest_of};
+ghost use Rattle.pr_marks.specs.Table.{names_of, newest_of};
+ghost use Rattle.pr_names.specs.Order.{NamesRise};
 ghost use Rattle.pr_names.specs.Name.{IsName};
 ghost use Rattle.pr_sets.specs.Spans.{IsAllBut, has};
 ghost use Rattle.pr_snap.specs.Build.{IsBuilt, IsPreciseName, row_with, rows_at};
@@ -69,7 +70,7 @@ fn with_precise(
 // A row for each known name outside the target.
 fn rows(alloc: Global, marks: &Marks, target: &NameSet) -> Result<Seq<Row>, NoMemory>
     ensures rows { IfOk result (λ rows. rows ≡ rows_at marks.now target.now (names_of marks.now)) }
-    ensures order { IfOk result (λ _. NamesRise marks.now) }
+    ensures order { IfOk result (λ _. NamesRise (names_of marks.now)) }
 {
     let mut rows = Seq::new(alloc);
     let mut last = None;

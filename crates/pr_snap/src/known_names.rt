@@ -1,7 +1,7 @@
 // The known names that a set has, or lacks, in order.
-ghost use Rattle.pr_marks.specs.Table.{NamesRise, is_after, names_of};
+ghost use Rattle.pr_marks.specs.Table.{is_after, names_of};
 ghost use Rattle.pr_names.specs.Name.{IsName};
-ghost use Rattle.pr_names.specs.Order.{name_lt};
+ghost use Rattle.pr_names.specs.Order.{name_lt, NamesRise};
 ghost use Rattle.pr_names.specs.Span.{Span};
 ghost use Rattle.pr_sets.specs.Spans.{IsSet, has};
 ghost use Rattle.pr_snap.specs.Walk.{IsEndOf, IsFirstPast, name_at};
@@ -9,14 +9,14 @@ ghost use Rattle.std.specs.Prelude.{◌≡◌, ◌≤◌, ◌<◌, ◌&&◌, ℕ
 
 use pr_marks::Marks;
 use pr_names::{Bound, Interval, Name};
-use pr_sets::NameSet;
+use pr_sets::{NameSet, begun_by};
 
 /// The least known name of the set that comes after this one, if there is one. Known names between two intervals of the
 /// set are passed over at once: it looks at one name for each interval at most, in time logarithmic in the known names
 /// and the intervals.
 pub fn next_known_in(marks: &Marks, names: &NameSet, above: &Option<Name>) -> Option<Name>
     ensures value { result ≡ find (λ o. is_after above.now o && has names.now o) (names_of marks.now) }
-    ensures order { NamesRise marks.now }
+    ensures order { NamesRise (names_of marks.now) }
 {
     let mut last = *above;
     while let Some(name) = marks.next_known(&last) {
@@ -38,7 +38,7 @@ pub fn next_known_in(marks: &Marks, names: &NameSet, above: &Option<Name>) -> Op
 // of the set are passed over at once, as by `next_known_in`.
 pub fn next_known_outside(marks: &Marks, names: &NameSet, above: &Option<Name>) -> Option<Name>
     ensures value { result ≡ find (λ o. is_after above.now o && not (has names.now o)) (names_of marks.now) }
-    ensures order { NamesRise marks.now }
+    ensures order { NamesRise (names_of marks.now) }
 {
     let mut last = *above;
     while let Some(name) = marks.next_known(&last) {
@@ -90,20 +90,4 @@ fn name_at(bound: &Bound) -> Option<Name>
         Bound::At(name) => Some(*name),
         Bound::End => None,
     }
-}
-
-// How many intervals begin with the name or before it.
-fn begun_by(parts: &[Interval], name: &Name) -> usize
-    requires { IsSet parts.now }
-    ensures most { result ≤ length parts.now }
-    ensures name { IsName name.now }
-    ensures begun { (i : ℕ) (d : Span) → i < result → name_lt name.now (slice_index_or parts.now i d).lo ≡ false }
-    ensures later { (i : ℕ) (d : Span) → result ≤ i → i < length parts.now → name_lt name.now (slice_index_or parts.now i d).lo ≡ true }
-{
-    let _ = name.bytes();
-    parts.partition_point(
-        |part: &Interval| -> bool
-            ensures { result ≡ not (name_lt name.entry.now part.now.lo) }
-        { !name.is_below(&part.lo()) },
-    )
 }

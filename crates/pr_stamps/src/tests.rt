@@ -37,6 +37,11 @@ fn stamps_are_ordered_by_clock_then_node(rt: HostRuntime) -> Result<(), Fail> {
         (mark.stamp.clock(), mark.stamp.node(), mark.prev),
         (2, 0, Some(early))
     );
+    let missing = Mark {
+        stamp: of(3, 0).ok_or("a stamp")?,
+        prev: Some(early),
+    };
+    assert!(rt; mark.conflicts_with(&missing) && !missing.conflicts_with(&mark));
     assert_eq!(rt;
         (next_clock(0), next_clock(MAX - 1), next_clock(MAX)),
         (Some(1), Some(MAX), None)

@@ -5,6 +5,7 @@ use Rattle.std.specs.List.{AllZip}
 use Rattle.std.proofs.lemmas.Bool.Decides.{nat_tests}
 use Rattle.std.proofs.lemmas.List.{get_or_past}
 use Rattle.std.proofs.lemmas.List.Elements.{Contains-get_or}
+use Rattle.pr_sets.specs.Sets.{set_of}
 use Rattle.pr_stamps.specs.Point.{Point}
 use Rattle.pr_stamps.specs.declared.mark.Mark.{Mark}
 use Rattle.pr_vectors.specs.Vector.{clock_of, Covers, join_of, IsVector, zero_vector, cut_of, below_of, last_of, raised}
@@ -25,7 +26,7 @@ use Rattle.pr_story.specs.declared.found.Found.{Found}
 use Rattle.pr_story.specs.declared.found.Found.TheVariants as founds
 use Rattle.pr_story.specs.Ranges.{IsKind}
 use Rattle.pr_story.specs.History.{Plan, NodeEntry, journal, WasWritten, Writes, WasSent, Sends, clock_brought, current_clock, current_vector}
-use Rattle.pr_story.specs.Told.{IsLastPrecise, set_of, all_sets, IsPrecise, IsTold, IsGreatestUpTo, IsStart}
+use Rattle.pr_story.specs.Told.{IsLastPrecise, all_sets, IsPrecise, IsTold, IsGreatestUpTo, IsStart}
 use Rattle.pr_story.specs.Knowledge.{IsAnswer, IsNewest, IsGone, IsFound, IsCoveredMark, IsCoveredWrite, IsNewestKnown, WasNamed, IsMark, Knows, cuts_of, cut_in, floor_of, floor_in, floor_after}
 use Rattle.pr_story.specs.Clients.{client_vector, seen_after}
 use Rattle.pr_story.specs.Turns.{position, position_after, standing, IsTurn, IsSnapshot, IsSnapshotRow, SendTurn}

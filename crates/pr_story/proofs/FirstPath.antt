@@ -3,6 +3,7 @@ use Rattle.std.proofs.Common.{◌≡◌, ℕ, ◌<◌, ◌≤◌, ◌⊎◌, inl
 use Rattle.std.specs.Prelude.{true, false, IsTrue, Some}
 use Rattle.std.proofs.lemmas.Bool.Decides.{nat_tests}
 use Rattle.std.proofs.lemmas.List.Elements.{All-cons, All-nil}
+use Rattle.pr_sets.specs.Sets.{set_of}
 use Rattle.pr_stamps.specs.Point.{Point, IsStamp, Before}
 use Rattle.pr_names.specs.Name.{IsName}
 use Rattle.pr_names.specs.Order.{name_lt}
@@ -16,7 +17,7 @@ use Rattle.pr_story.specs.declared.event.Event.TheVariants.{Wrote, Attached, Sen
 use Rattle.pr_story.specs.declared.reply.Reply.TheVariants as reply
 use Rattle.pr_story.specs.Ranges.{IsMsg, IsBytes}
 use Rattle.pr_story.specs.History.{journal, current_vector, WasWritten}
-use Rattle.pr_story.specs.Told.{set_of, IsPrecise}
+use Rattle.pr_story.specs.Told.{IsPrecise}
 use Rattle.pr_story.specs.Knowledge.{IsNewest}
 use Rattle.pr_story.specs.Turns.{standing, IsTurn, SendTurn, IdleTurn}
 use Rattle.pr_story.specs.Lawful.{Valid, IsLawful}

@@ -4,7 +4,7 @@ use Rattle.std.specs.Prelude.{false, true, Some, None, Option, Bool, ◌&&◌, n
 use Rattle.std.specs.Str.{bytes_eq}
 use Rattle.std.proofs.lemmas.Bool.Decides.{eqb_tells, Decides-eqb, Decides-and}
 use Rattle.std.proofs.lemmas.Slice.Eq.{bytes_eq-Decides}
-use Rattle.pr_stamps.specs.Point.{Point}
+use Rattle.pr_stamps.specs.Point.{Point, is_this}
 use Rattle.pr_inval.specs.declared.kind.Kind.{Kind}
 use Rattle.pr_inval.specs.declared.kind.Kind.TheVariants.{Precise, Imprecise, Checkpoint, Body}
 use Rattle.pr_inval.specs.declared.write_rec.WriteRec.{WriteRec}
@@ -13,7 +13,6 @@ use Rattle.pr_story.specs.declared.event.Event.TheVariants.{Wrote, Accepted, Dro
 use Rattle.pr_story.specs.declared.entry.Entry.{Entry}
 use Rattle.pr_story.specs.History.{NodeEntry, journal, Writes, Accepts, WasWritten, HasAccepted}
 use Rattle.pr_story.specs.Knowledge.{HeardOf, Knows, body_in, body_after, held_body}
-use Rattle.pr_inval.specs.Points.{is_this}
 use Rattle.pr_story.proofs.World.{World, WroteIn, told_one, accepted_honest, wrote_written}
 
 pub same_point : (s t : Point) → s.clock ≡ t.clock → s.node ≡ t.node → s ≡ t

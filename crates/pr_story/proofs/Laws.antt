@@ -12,7 +12,8 @@ use Rattle.pr_inval.specs.declared.msg.Msg.{Msg}
 use Rattle.pr_story.specs.declared.event.Event.{Event}
 use Rattle.pr_story.specs.declared.event.Event.TheVariants.{Sent}
 use Rattle.pr_story.specs.History.{Plan, NodeEntry, journal, WasWritten, Sends, current_clock, current_vector}
-use Rattle.pr_story.specs.Told.{set_of, IsDarkBetween}
+use Rattle.pr_story.specs.Told.{IsDarkBetween}
+use Rattle.pr_sets.specs.Sets.{set_of}
 use Rattle.pr_inval.specs.Standing.{Standing}
 use Rattle.pr_story.specs.Turns.{standing, IsTarget, IsWriteToSend, IsTurn, IsSnapshot, SendTurn}
 use Rattle.pr_story.specs.Messages.{IsUseful}

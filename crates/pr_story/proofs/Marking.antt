@@ -6,7 +6,7 @@ use Rattle.std.proofs.lemmas.Bool.Decides.{nat_tests}
 use Rattle.std.proofs.lemmas.List.Elements.{Contains-append_left, Contains-append_right, Contains-append_cases}
 use Rattle.std.proofs.lemmas.Slice.Eq.{bytes_eq-Decides}
 use Rattle.pr_names.specs.Span.{Span}
-use Rattle.pr_stamps.specs.Point.{Point, Before}
+use Rattle.pr_stamps.specs.Point.{Point, Before, is_before, is_missed}
 use Rattle.pr_stamps.specs.declared.mark.Mark.{Mark}
 use Rattle.pr_inval.specs.declared.kind.Kind.{Kind}
 use Rattle.pr_inval.specs.declared.kind.Kind.TheVariants.{Precise, Checkpoint}
@@ -17,8 +17,8 @@ use Rattle.pr_story.specs.declared.event.Event.TheVariants.{Accepted}
 use Rattle.pr_vectors.specs.Vector.{Covers}
 use Rattle.pr_story.specs.declared.entry.Entry.{Entry}
 use Rattle.pr_story.specs.Knowledge.{first_of, mark_at, mark_in, mark_in_rows, mark_of, mark_told, known_mark, floor_of, IsMark, MissedBy, AreConflicts}
-use Rattle.pr_story.specs.Search.{is_before}
-use Rattle.pr_story.specs.Marking.{if_at, mark_by_row, mark_by_write, MarksRise, AreMarks, IsMarkedBy, marks_below, marks_past, is_missed, is_conflict, pairs_with, pairs_of}
+use Rattle.pr_story.specs.Marking.{if_at, mark_by_row, mark_by_write, MarksRise, AreMarks, IsMarkedBy, marks_below, marks_past, pairs_with, pairs_of}
+use Rattle.pr_stamps.specs.Marks.{is_conflict}
 use Rattle.pr_story.proofs.InOrder.{pairs_before, pairs_last, last_pairs, placed_pairs, pairs_none, pairs_cons, pairs_append}
 use Rattle.pr_story.proofs.Known.{same_point}
 use Rattle.pr_story.proofs.Naming.{Decides-stamp, at_marks, first_left, first_right, picks}

@@ -3,7 +3,7 @@ use Rattle.std.proofs.Common.{◌≡◌, ◌≢◌, ℕ, ◌<◌, ◌⊎◌, inl
 use Rattle.std.specs.Prelude.{Option, None, Some, Contains}
 use Rattle.std.proofs.lemmas.Bool.Decides.{nat_tests}
 use Rattle.std.proofs.lemmas.List.Elements.{Contains-append_left, Contains-append_right, Contains-append_cases}
-use Rattle.pr_stamps.specs.Point.{Point, Before}
+use Rattle.pr_stamps.specs.Point.{Point, Before, is_before, is_this}
 use Rattle.pr_names.specs.Span.{Span}
 use Rattle.pr_inval.specs.declared.kind.Kind.{Kind}
 use Rattle.pr_inval.specs.declared.kind.Kind.TheVariants.{Checkpoint}
@@ -12,10 +12,9 @@ use Rattle.pr_inval.specs.declared.row.Row.{Row}
 use Rattle.pr_story.specs.declared.entry.Entry.{Entry}
 use Rattle.pr_story.specs.declared.event.Event.{Event}
 use Rattle.pr_story.specs.declared.event.Event.TheVariants.{Wrote, Accepted}
-use Rattle.pr_story.specs.declared.plain.named.Named.{Named}
+use Rattle.pr_stamps.specs.declared.newest.Newest.{Newest}
 use Rattle.pr_story.specs.Knowledge.{IsOf, HasRow, first_of, gone_in_rows, gone_in, gone_told, known_gone, NamesStamp, WasNamed}
-use Rattle.pr_story.specs.Search.{is_before, later_of, IsOnly, IsNewestRow, IsNewestIn, IsNewestOf}
-use Rattle.pr_inval.specs.Points.{is_this}
+use Rattle.pr_story.specs.Search.{later_of, IsOnly, IsNewestRow, IsNewestIn, IsNewestOf}
 use Rattle.pr_inval.specs.declared.write_rec.WriteRec.{WriteRec}
 use Rattle.pr_inval.specs.declared.kind.Kind.TheVariants.{Precise}
 use Rattle.pr_story.proofs.Naming.{NamesGone, WasNamedGone, none_or_some, first_left, first_right, picks, is_so, rows_gone, known_gone_told}
@@ -55,7 +54,7 @@ rows_append (r ∷ rows) row o s =
     ∙ first_twice (cond (is_this r.name r.newest o s) (Some r.gone) None) (gone_in_rows rows o s) (cond (is_this row.name row.newest o s) (Some row.gone) None)
 
 -- where no row with the name has the stamp, the row at the end tells of it
-gone_last : (rows : List Row) (row : Row) (o : List ℕ) (n : Named) → row.name ≡ o → row.newest ≡ n.stamp → row.gone ≡ n.gone → ((x : Row) → Contains rows x → x.name ≡ o → x.newest ≡ n.stamp → ⊥) → gone_in_rows (rows ++ row ∷ []) o n.stamp ≡ Some n.gone
+gone_last : (rows : List Row) (row : Row) (o : List ℕ) (n : Newest) → row.name ≡ o → row.newest ≡ n.stamp → row.gone ≡ n.gone → ((x : Row) → Contains rows x → x.name ≡ o → x.newest ≡ n.stamp → ⊥) → gone_in_rows (rows ++ row ∷ []) o n.stamp ≡ Some n.gone
 gone_last rows row o n name stamp gone none =
     rows_append rows row o n.stamp
     ∙ first_right (gone_in_rows rows o n.stamp) (cond (is_this row.name row.newest o n.stamp) (Some row.gone) None) (elim (none_or_some (gone_in_rows rows o n.stamp)) [
@@ -65,11 +64,11 @@ gone_last rows row o n name stamp gone none =
     ∙ picks (is_this row.name row.newest o n.stamp) row.gone (is_so row.name o row.newest n.stamp name stamp)
     ∙ ap (λ (b : Bool). Some b) gone
 
-gone_kept : (rows : List Row) (row : Row) (o : List ℕ) (n : Named) → gone_in_rows rows o n.stamp ≡ Some n.gone → gone_in_rows (rows ++ row ∷ []) o n.stamp ≡ Some n.gone
+gone_kept : (rows : List Row) (row : Row) (o : List ℕ) (n : Newest) → gone_in_rows rows o n.stamp ≡ Some n.gone → gone_in_rows (rows ++ row ∷ []) o n.stamp ≡ Some n.gone
 gone_kept rows row o n e = rows_append rows row o n.stamp ∙ first_left (gone_in_rows rows o n.stamp) _ n.gone e
 
 -- a row of another name changes nothing
-pub other_row : (rows : List Row) (row : Row) (o : List ℕ) (n : Option Named) → row.name ≢ o → IsNewestRow rows o n → IsNewestRow (rows ++ row ∷ []) o n
+pub other_row : (rows : List Row) (row : Row) (o : List ℕ) (n : Option Newest) → row.name ≢ o → IsNewestRow rows o n → IsNewestRow (rows ++ row ∷ []) o n
 other_row rows row o None other none = λ x c e. elim (Contains-append_cases rows (row ∷ []) x c) [
   | inl old ↦ none x old e
   | inr now ↦ other (ap (λ (r : Row). r.name) (one_only row x now) ∙ e)
@@ -84,7 +83,7 @@ other_row rows row o (Some n) other newest = (
 )
 
 -- a row of the name is the newest where it is later
-this_row : (rows : List Row) (row : Row) (o : List ℕ) (was : Option Named) (here : Named) → row.name ≡ o → row.newest ≡ here.stamp → row.gone ≡ here.gone → IsNewestRow rows o was → IsNewestRow (rows ++ row ∷ []) o (later_of was (Some here))
+this_row : (rows : List Row) (row : Row) (o : List ℕ) (was : Option Newest) (here : Newest) → row.name ≡ o → row.newest ≡ here.stamp → row.gone ≡ here.gone → IsNewestRow rows o was → IsNewestRow (rows ++ row ∷ []) o (later_of was (Some here))
 this_row rows row o None here name stamp gone none = (
   (row, Contains-append_right rows (row ∷ []) row (is_first row []), name, stamp),
   λ x c e b. elim (Contains-append_cases rows (row ∷ []) x c) [
@@ -112,8 +111,8 @@ this_row rows row o (Some w) here name stamp gone newest = elim (before_tells w.
   )
 ]
 
-pub this_row_of : (rows : List Row) (row : Row) (o : List ℕ) (was r : Option Named) (here : Named) → row.name ≡ o → row.newest ≡ here.stamp → row.gone ≡ here.gone → r ≡ later_of was (Some here) → IsNewestRow rows o was → IsNewestRow (rows ++ row ∷ []) o r
-this_row_of rows row o was r here name stamp gone is so = subst (λ (n : Option Named). IsNewestRow (rows ++ row ∷ []) o n) (sym is) (this_row rows row o was here name stamp gone so)
+pub this_row_of : (rows : List Row) (row : Row) (o : List ℕ) (was r : Option Newest) (here : Newest) → row.name ≡ o → row.newest ≡ here.stamp → row.gone ≡ here.gone → r ≡ later_of was (Some here) → IsNewestRow rows o was → IsNewestRow (rows ++ row ∷ []) o r
+this_row_of rows row o was r here name stamp gone is so = subst (λ (n : Option Newest). IsNewestRow (rows ++ row ∷ []) o n) (sym is) (this_row rows row o was here name stamp gone so)
 
 -- ---- events
 
@@ -133,13 +132,13 @@ unnamed j o s none = elim (none_or_some (known_gone j o s)) [ inl e ↦ e | inr 
 pub newest_none : (o : List ℕ) → IsNewestOf [] o None
 newest_none o = λ s t. absurd t
 
-pub newest_more : (e : Entry) (j : List Entry) (o : List ℕ) (was here r : Option Named) → r ≡ later_of was here → IsNewestOf j o was → IsNewestIn e.event o here → IsNewestOf (e ∷ j) o r
-newest_more e j o was here r is old new = subst (λ (n : Option Named). IsNewestOf (e ∷ j) o n) (sym is) (by was here old new)
+pub newest_more : (e : Entry) (j : List Entry) (o : List ℕ) (was here r : Option Newest) → r ≡ later_of was here → IsNewestOf j o was → IsNewestIn e.event o here → IsNewestOf (e ∷ j) o r
+newest_more e j o was here r is old new = subst (λ (n : Option Newest). IsNewestOf (e ∷ j) o n) (sym is) (by was here old new)
   where
     earlier_keeps : (s t r : Point) → (Before s t → ⊥) → (Before t r → ⊥) → Before s r → ⊥
     earlier_keeps s t r a b c = grind (arith, nat_tests)
 
-    by : (was here : Option Named) → IsNewestOf j o was → IsNewestIn e.event o here → IsNewestOf (e ∷ j) o (later_of was here)
+    by : (was here : Option Newest) → IsNewestOf j o was → IsNewestIn e.event o here → IsNewestOf (e ∷ j) o (later_of was here)
     by None None old new = λ s t. elim t [ inl now ↦ new s now | inr past ↦ old s past ]
     by None (Some h) old new = (
       (inl new.0, λ s t. elim t [ inl now ↦ new.1 s now | inr past ↦ absurd (old s past) ]),
@@ -167,7 +166,7 @@ newest_more e j o was here r is old new = subst (λ (n : Option Named). IsNewest
     ]
 
 -- what a write names
-only_in : (k : Kind) (from to : List ℕ) (write : WriteRec) (at : List ℕ) (msg : Msg) (o : List ℕ) (r : Option Named) → msg.kind ≡ Precise from to write → IsOnly write o r → IsNewestIn (Accepted msg at) o r
+only_in : (k : Kind) (from to : List ℕ) (write : WriteRec) (at : List ℕ) (msg : Msg) (o : List ℕ) (r : Option Newest) → msg.kind ≡ Precise from to write → IsOnly write o r → IsNewestIn (Accepted msg at) o r
 only_in k from to write at msg o None is other = λ s t. elim t [
   | inl x ↦ other (ap (λ (w : WriteRec). w.name) (subst (λ (k : Kind). IsOf k x.0) is x.1) ∙ x.2)
   | inr r ↦ subst (λ (k : Kind). HasRow k r.0) is r.1
@@ -181,10 +180,10 @@ only_in k from to write at msg o (Some n) is so = (
   ap (λ (k : Kind). gone_in k o n.stamp) is ∙ picks (is_this write.name write.stamp o n.stamp) write.gone (is_so write.name o write.stamp n.stamp so.0 so.1) ∙ ap (λ (b : Bool). Some b) so.2,
 )
 
-pub accepted_newest : (msg : Msg) (at from to : List ℕ) (write : WriteRec) (o : List ℕ) (r : Option Named) → msg.kind ≡ Precise from to write → IsOnly write o r → IsNewestIn (Accepted msg at) o r
+pub accepted_newest : (msg : Msg) (at from to : List ℕ) (write : WriteRec) (o : List ℕ) (r : Option Newest) → msg.kind ≡ Precise from to write → IsOnly write o r → IsNewestIn (Accepted msg at) o r
 accepted_newest msg at from to write o r is so = only_in (Precise from to write) from to write at msg o r is so
 
-pub wrote_newest : (client : ℕ) (write : WriteRec) (body after o : List ℕ) (r : Option Named) → IsOnly write o r → IsNewestIn (Wrote client write body after) o r
+pub wrote_newest : (client : ℕ) (write : WriteRec) (body after o : List ℕ) (r : Option Newest) → IsOnly write o r → IsNewestIn (Wrote client write body after) o r
 wrote_newest client write body after o None other = λ s t. other t.0
 wrote_newest client write body after o (Some n) so = (
   (so.0, so.1),
@@ -193,7 +192,7 @@ wrote_newest client write body after o (Some n) so = (
 )
 
 -- what the rows of a checkpoint name
-pub rows_newest : (msg : Msg) (at to floor : List ℕ) (target : List Span) (rows : List Row) (o : List ℕ) (r : Option Named) → msg.kind ≡ Checkpoint to target floor rows → IsNewestRow rows o r → IsNewestIn (Accepted msg at) o r
+pub rows_newest : (msg : Msg) (at to floor : List ℕ) (target : List Span) (rows : List Row) (o : List ℕ) (r : Option Newest) → msg.kind ≡ Checkpoint to target floor rows → IsNewestRow rows o r → IsNewestIn (Accepted msg at) o r
 rows_newest msg at to floor target rows o None is none = λ s t. elim t [
   | inl x ↦ subst (λ (k : Kind). IsOf k x.0) is x.1
   | inr r ↦ none r.0 (subst (λ (k : Kind). HasRow k r.0) is r.1) r.2

@@ -20,7 +20,8 @@ use Rattle.pr_story.specs.declared.reply.Reply.TheVariants as reply
 use Rattle.pr_story.specs.declared.found.Found.{Found}
 use Rattle.pr_story.specs.declared.found.Found.TheVariants as found
 use Rattle.pr_story.specs.History.{NodeEntry, journal, current_clock, current_vector}
-use Rattle.pr_story.specs.Told.{all_sets, set_of, IsPrecise, IsTold, IsUntold, IsGreatestUpTo, IsLastPrecise, IsStart}
+use Rattle.pr_story.specs.Told.{all_sets, IsPrecise, IsTold, IsUntold, IsGreatestUpTo, IsLastPrecise, IsStart}
+use Rattle.pr_sets.specs.Sets.{set_of}
 use Rattle.pr_story.specs.Knowledge.{WasNamed, IsNewest, IsCoveredWrite, IsGone, IsMark, IsNewestKnown, IsAnswer, IsFound, MissedBy, AreConflicts, held_body}
 use Rattle.pr_story.specs.Turns.{IsSnapshot, IsSnapshotRow}
 use Rattle.pr_story.proofs.Clocks.{neither_before}

@@ -14,7 +14,8 @@ use Rattle.pr_story.specs.declared.reply.Reply.TheVariants as reply
 use Rattle.pr_story.specs.declared.found.Found.{Found}
 use Rattle.pr_story.specs.declared.found.Found.TheVariants as found
 use Rattle.pr_story.specs.History.{Plan, NodeEntry, journal, current_vector}
-use Rattle.pr_story.specs.Told.{set_of, IsStart}
+use Rattle.pr_story.specs.Told.{IsStart}
+use Rattle.pr_sets.specs.Sets.{set_of}
 use Rattle.pr_story.specs.Knowledge.{IsNewestKnown, IsNewest, IsMark, IsCoveredMark, KnowsGone, IsGone, IsAnswer, IsFound, AreConflicts, floor_of}
 use Rattle.pr_vectors.specs.Vector.{Le}
 use Rattle.pr_story.specs.Clients.{is_with_needs, client_vector}

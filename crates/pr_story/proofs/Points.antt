@@ -10,7 +10,8 @@ use Rattle.pr_inval.specs.declared.kind.Kind.{Kind}
 use Rattle.pr_story.specs.declared.entry.Entry.{Entry}
 use Rattle.pr_story.specs.History.{Accepts, HasAccepted, current_clock, current_vector}
 use Rattle.pr_story.specs.Told.{IsGreatestUpTo}
-use Rattle.pr_story.specs.Search.{point, IsRun}
+use Rattle.pr_story.specs.Search.{point}
+use Rattle.pr_vectors.specs.UpTo.{IsLastClock}
 
 -- one of the accepted messages is as wanted
 abbrev pub SomeKind : (Kind → Type 0) → List Entry → Type 0
@@ -56,7 +57,7 @@ run_more T v n b told lt next c one le = elim (next_or c b le) [
 ]
 
 -- all points of the node
-pub run_all : (T : Point → Type 0) (v : List ℕ) (n b most : ℕ) → ((c : ℕ) → 1 ≤ c → c ≤ b → T (point c n)) → most ≡ clock_of v n → most ≤ b → IsRun T v n most
+pub run_all : (T : Point → Type 0) (v : List ℕ) (n b most : ℕ) → ((c : ℕ) → 1 ≤ c → c ≤ b → T (point c n)) → most ≡ clock_of v n → most ≤ b → IsLastClock T v n most
 run_all T v n b most told is le = (omega arith, λ c one under. told c one (omega arith), λ lt. absurd (omega arith))
 
 -- a covered point is of a known node
@@ -101,16 +102,16 @@ raised_apart v u p n c w e is lt d =
 -- the runs of the nodes below n
 pub record AreRuns (T : Point → Type 0) (v last : List ℕ) (n : ℕ) : Type 0 where
   pub long : length last ≡ 32
-  pub runs : (w : ℕ) → w < n → IsRun T v w (clock_of last w)
+  pub runs : (w : ℕ) → w < n → IsLastClock T v w (clock_of last w)
   pub rest : (w : ℕ) → w < 32 → n ≤ w → clock_of last w ≡ 0
 
-pub runs_more : (T : Point → Type 0) (v last next : List ℕ) (n most : ℕ) → n < 32 → AreRuns T v last n → IsRun T v n most → length next ≡ 32 → clock_of next n ≡ most
+pub runs_more : (T : Point → Type 0) (v last next : List ℕ) (n most : ℕ) → n < 32 → AreRuns T v last n → IsLastClock T v n most → length next ≡ 32 → clock_of next n ≡ most
     → ((w : ℕ) → w < 32 → w ≢ n → clock_of next w ≡ clock_of last w) → AreRuns T v next (n + 1)
 runs_more T v last next n most lt so run long here others = record {
   long = long;
   runs = λ w less. elim (below_or w n less) [
-    | inl old ↦ subst (λ (k : ℕ). IsRun T v w k) (sym (others w (omega arith) (omega arith))) (so.runs w old)
-    | inr now ↦ subst (λ (k : ℕ). IsRun T v k (clock_of next k)) (sym now) (subst (λ (k : ℕ). IsRun T v n k) (sym here) run)
+    | inl old ↦ subst (λ (k : ℕ). IsLastClock T v w k) (sym (others w (omega arith) (omega arith))) (so.runs w old)
+    | inr now ↦ subst (λ (k : ℕ). IsLastClock T v k (clock_of next k)) (sym now) (subst (λ (k : ℕ). IsLastClock T v n k) (sym here) run)
   ];
   rest = λ w less le. others w less (omega arith) ∙ so.rest w less (omega arith);
 }
@@ -119,7 +120,7 @@ pub runs_last : (T : Point → Type 0) (j : List Entry) (v last : List ℕ) (n :
 runs_last T j v last n is all so = (
   so.long,
   λ w lt.
-      let r : IsRun T v w (clock_of last w) = so.runs w (omega arith) in
+      let r : IsLastClock T v w (clock_of last w) = so.runs w (omega arith) in
       let le : clock_of last w ≤ clock_of v w = r.0 in
       let e : clock_of v w ≡ current_clock j w = ap (λ (u : List ℕ). clock_of u w) is ∙ clock_of-vector_of (current_clock j) w lt in
       (omega arith, r.1, λ below. r.2 (omega arith)),

@@ -17,7 +17,8 @@ use Rattle.pr_story.specs.declared.event.Event.TheVariants.{Wrote, Accepted}
 use Rattle.pr_inval.specs.Points.{to_of, target_of, CoversPoint}
 use Rattle.pr_story.specs.declared.entry.Entry.{Entry}
 use Rattle.pr_story.specs.History.{NodeEntry, journal, Accepts, WasWritten, HasAccepted, current_clock, current_vector}
-use Rattle.pr_story.specs.Told.{rest_of, first_with, set_of, IsTold, IsPrecise}
+use Rattle.pr_story.specs.Told.{IsTold, IsPrecise}
+use Rattle.pr_sets.specs.Sets.{rest_of, first_with, set_of}
 use Rattle.pr_story.specs.Knowledge.{IsOf, HasRow, TellsOf, HeardOf, NamesStamp, WasNamed, KnowsGone, IsGone, IsNewestKnown, IsNewest, IsCoveredWrite, IsCoveredMark, IsMark, floor_in, floor_after, floor_of}
 use Rattle.pr_story.specs.Messages.{IsWithinWorld, IsHonestRow, IsHonest}
 use Rattle.pr_story.specs.Turns.{IsSnapshot, IsSnapshotRow}

@@ -16,7 +16,7 @@ use Rattle.pr_inval.specs.Standing.{Standing}
 use Rattle.pr_story.specs.declared.entry.Entry.{Entry}
 use Rattle.pr_story.specs.declared.event.Event.{Event}
 use Rattle.pr_story.specs.declared.event.Event.TheVariants.{Wrote, Accepted}
-use Rattle.pr_story.specs.declared.plain.named.Named.{Named}
+use Rattle.pr_stamps.specs.declared.newest.Newest.{Newest}
 use Rattle.pr_story.specs.declared.plain.next.Next.{Next}
 use Rattle.pr_story.specs.declared.plain.next.Next.TheVariants as next
 use Rattle.pr_story.specs.History.{current_vector}
@@ -190,19 +190,19 @@ newest_one j o s t a b = same_some s t (greatest_one (WasNamed j o) (Some s) (So
 pub no_newest : (j : List Entry) (session : Standing) (o : List ℕ) → IsNewestOf j o None → IsBodyOf j session o None
 no_newest j session o none t bytes b = none t b.1.0
 
-pub not_gone : (j : List Entry) (session : Standing) (o : List ℕ) (n : Named) → IsNewestOf j o (Some n) → n.gone ≡ true → IsBodyOf j session o None
+pub not_gone : (j : List Entry) (session : Standing) (o : List ℕ) (n : Newest) → IsNewestOf j o (Some n) → n.gone ≡ true → IsBodyOf j session o None
 not_gone j session o n newest gone t bytes b =
     let e : n.stamp ≡ t = newest_one j o n.stamp t newest.0 b.1 in
     let k : KnowsGone j o t n.gone = subst (λ (s : Point). KnowsGone j o s n.gone) e newest.1 in
     let bad : Some n.gone ≡ Some false = sym k ∙ b.2 in cc
 
-pub was_sent : (j : List Entry) (session : Standing) (o : List ℕ) (n : Named) → IsNewestOf j o (Some n) → session.sent o n.stamp ≡ true → IsBodyOf j session o None
+pub was_sent : (j : List Entry) (session : Standing) (o : List ℕ) (n : Newest) → IsNewestOf j o (Some n) → session.sent o n.stamp ≡ true → IsBodyOf j session o None
 was_sent j session o n newest sent t bytes b =
     let e : n.stamp ≡ t = newest_one j o n.stamp t newest.0 b.1 in
     let s : session.sent o t ≡ true = subst (λ (s : Point). session.sent o s ≡ true) e sent in
     let f : session.sent o t ≡ false = b.4 in cc
 
-pub not_held : (j : List Entry) (session : Standing) (o : List ℕ) (n : Named) → IsNewestOf j o (Some n) → held_body j o n.stamp ≡ None → IsBodyOf j session o None
+pub not_held : (j : List Entry) (session : Standing) (o : List ℕ) (n : Newest) → IsNewestOf j o (Some n) → held_body j o n.stamp ≡ None → IsBodyOf j session o None
 not_held j session o n newest held t bytes b =
     let e : n.stamp ≡ t = newest_one j o n.stamp t newest.0 b.1 in
     let h : held_body j o t ≡ None = subst (λ (s : Point). held_body j o s ≡ None) e held in

@@ -6,15 +6,16 @@ use Rattle.std.proofs.lemmas.Bool.Decides.{nat_tests}
 use Rattle.std.proofs.lemmas.List.Elements.{Contains-append_left, Contains-append_right, Contains-append_cases}
 use Rattle.std.proofs.lemmas.List.{append-nil, drop_all, drop_more}
 use Rattle.pr_names.specs.Name.{IsName}
-use Rattle.pr_names.specs.Order.{name_lt}
+use Rattle.pr_names.specs.Order.{name_lt, NamesRise}
 use Rattle.pr_names.specs.Span.{Span}
 use Rattle.pr_sets.specs.Spans.{has, IsAllBut, IsComplement, IsIntersection}
 use Rattle.pr_inval.specs.declared.row.Row.{Row}
 use Rattle.pr_story.specs.declared.entry.Entry.{Entry}
 use Rattle.pr_story.specs.Knowledge.{WasNamed}
-use Rattle.pr_story.specs.Marking.{AreInOrder, AreRowsOf, AreAllRows, IsRowAdded, IsRowOf, NamesRise, names_below, names_past}
+use Rattle.pr_story.specs.Marking.{AreInOrder, AreRowsOf, AreAllRows, IsRowAdded, IsRowOf, names_below, names_past}
 use Rattle.pr_story.specs.Sending.{IsNamedList}
-use Rattle.pr_story.specs.Told.{IsPrecise, first_with, rest_of, set_of}
+use Rattle.pr_story.specs.Told.{IsPrecise}
+use Rattle.pr_sets.specs.Sets.{first_with, rest_of, set_of}
 use Rattle.pr_story.specs.Turns.{IsSnapshotRow}
 use Rattle.pr_story.proofs.InOrder.{is_kept, kept_is, last_pairs, pairs_before, pairs_last, placed_pairs}
 use Rattle.pr_story.proofs.Lit.{both_true}

@@ -13,7 +13,8 @@ use Rattle.pr_vectors.proofs.Vectors.{clock_of-vector_of, length-vector_of}
 use Rattle.pr_story.specs.declared.entry.Entry.{Entry}
 use Rattle.pr_story.specs.History.{current_clock, current_vector}
 use Rattle.pr_story.specs.Search.{AreTold, IsStartOf}
-use Rattle.pr_story.specs.Told.{IsGreatestUpTo, IsLastPrecise, IsStart, IsTold, rest_of}
+use Rattle.pr_story.specs.Told.{IsGreatestUpTo, IsLastPrecise, IsStart, IsTold}
+use Rattle.pr_sets.specs.Sets.{rest_of}
 use Rattle.pr_story.proofs.SameNames.{agree_back, told_same}
 use Rattle.pr_story.proofs.Sorted.{contains_none, first_or_later, is_first, is_later}
 

@@ -3,6 +3,7 @@ use Rattle.std.proofs.Common.{◌≡◌, ℕ, ◌<◌, ◌≤◌, ◌⊎◌, inl
 use Rattle.std.specs.Prelude.{true, false, IsTrue, Bool, Some, reverse}
 use Rattle.std.proofs.lemmas.Bool.Decides.{nat_tests}
 use Rattle.std.proofs.lemmas.List.Elements.{All-cons, All-nil}
+use Rattle.pr_sets.specs.Sets.{set_of}
 use Rattle.pr_stamps.specs.Point.{Point, IsStamp, Before}
 use Rattle.pr_stamps.specs.declared.mark.Mark.{Mark}
 use Rattle.pr_names.specs.Order.{name_lt}
@@ -14,7 +15,7 @@ use Rattle.pr_story.specs.declared.event.Event.TheVariants.{Wrote, Attached, Sen
 use Rattle.pr_story.specs.declared.reply.Reply.TheVariants as reply
 use Rattle.pr_story.specs.Ranges.{IsMsg, IsRow, IsStampOrNone}
 use Rattle.pr_story.specs.History.{journal, current_vector, WasWritten}
-use Rattle.pr_story.specs.Told.{set_of, IsPrecise}
+use Rattle.pr_story.specs.Told.{IsPrecise}
 use Rattle.pr_story.specs.Knowledge.{IsNewest, IsNewestKnown, IsMark, IsCoveredMark, WasNamed, floor_of}
 use Rattle.pr_story.specs.Clients.{client_vector}
 use Rattle.pr_story.specs.Turns.{standing, IsTurn, IsSnapshot, IsSnapshotRow, StaleTurn}

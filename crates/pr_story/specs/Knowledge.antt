@@ -1,7 +1,7 @@
 -- What a node knows of writes, and what it answers.
 use Rattle.std.specs.Prelude.{ℕ, List, [], ◌∷◌, ◌≡◌, ◌⊎◌, ◌&&◌, not, cond, nat_eq, Bool, true, false, Option, Some, None, Contains, AllPairs}
 use Rattle.std.specs.Str.{bytes_eq}
-use Rattle.pr_stamps.specs.Point.{Point, Before}
+use Rattle.pr_stamps.specs.Point.{Point, Before, is_this}
 use Rattle.pr_stamps.specs.declared.mark.Mark.{Mark}
 use Rattle.pr_vectors.specs.Vector.{Covers, join_of, zero_vector}
 use Rattle.pr_inval.specs.declared.kind.Kind.{Kind}
@@ -15,10 +15,10 @@ use Rattle.pr_story.specs.declared.reply.Reply.TheVariants as reply
 use Rattle.pr_story.specs.declared.found.Found.{Found}
 use Rattle.pr_story.specs.declared.found.Found.TheVariants as found
 use Rattle.pr_names.specs.Span.{Span}
-use Rattle.pr_inval.specs.Points.{is_this}
 use Rattle.pr_story.specs.declared.entry.Entry.{Entry}
 use Rattle.pr_story.specs.History.{NodeEntry, SomeEvent, WasWritten}
-use Rattle.pr_story.specs.Told.{set_of, IsPrecise, IsUntold}
+use Rattle.pr_story.specs.Told.{IsPrecise, IsUntold}
+use Rattle.pr_sets.specs.Sets.{set_of}
 
 -- ---- writes
 

@@ -12,7 +12,8 @@ use Rattle.pr_story.specs.declared.reply.Reply.TheVariants as reply
 use Rattle.pr_story.specs.declared.event.Event.{Event}
 use Rattle.pr_story.specs.declared.event.Event.TheVariants.{Wrote, Answered, Behind, Moved}
 use Rattle.pr_story.specs.History.{Plan, NodeEntry, SomeEvent, entries, journal, WasWritten, WasSent, Sends, IsClosed, current_clock, current_vector, AtEveryPlace}
-use Rattle.pr_story.specs.Told.{set_of, IsPrecise, IsLit}
+use Rattle.pr_story.specs.Told.{IsPrecise, IsLit}
+use Rattle.pr_sets.specs.Sets.{set_of}
 use Rattle.pr_story.specs.Knowledge.{Knows, IsAnswer, IsNewest, IsNewestKnown, WasNamed, KnowsGone, IsGone, IsMark, IsCoveredMark, floor_of, held_body}
 use Rattle.pr_story.specs.Messages.{IsHonest, IsUseful}
 use Rattle.pr_inval.specs.Standing.{Standing}

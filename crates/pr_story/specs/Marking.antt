@@ -1,18 +1,17 @@
 -- The marks of a name, its conflicts and the rows of a checkpoint, as the plain program finds them.
-use Rattle.std.specs.Prelude.{ℕ, List, [], ◌∷◌, ◌++◌, ◌≡◌, ◌⊎◌, ◌↔◌, ◌&&◌, IsTrue, Bool, true, false, nat_eq, cond, Option, None, Some, Contains, AllPairs, filter}
+use Rattle.std.specs.Prelude.{ℕ, List, [], ◌∷◌, ◌++◌, ◌≡◌, ◌⊎◌, ◌↔◌, ◌&&◌, IsTrue, false, nat_eq, cond, Option, None, Some, Contains, AllPairs, filter}
 use Rattle.std.specs.Option.{option_to_list}
 use Rattle.std.specs.Str.{bytes_eq}
-use Rattle.pr_stamps.specs.Point.{Point, Before}
+use Rattle.pr_stamps.specs.Marks.{is_conflict}
+use Rattle.pr_stamps.specs.Point.{Point, Before, is_before, is_this}
 use Rattle.pr_stamps.specs.declared.mark.Mark.{Mark}
-use Rattle.pr_names.specs.Order.{name_lt}
+use Rattle.pr_names.specs.Order.{NamesRise, name_lt}
 use Rattle.pr_names.specs.Span.{Span}
 use Rattle.pr_sets.specs.Spans.{has}
-use Rattle.pr_inval.specs.Points.{is_this}
 use Rattle.pr_inval.specs.declared.row.Row.{Row}
 use Rattle.pr_inval.specs.declared.write_rec.WriteRec.{WriteRec}
 use Rattle.pr_story.specs.declared.entry.Entry.{Entry}
 use Rattle.pr_story.specs.Knowledge.{WasNamed, first_of, mark_at, mark_of}
-use Rattle.pr_story.specs.Search.{is_before}
 use Rattle.pr_story.specs.Turns.{IsSnapshotRow}
 
 -- ---- marks
@@ -50,15 +49,6 @@ marks_past marks s = filter (λ (m : Mark). is_before s m.stamp) marks
 
 -- ---- conflicts
 
--- no stamp is before every stamp
-abbrev pub is_missed : Option Point → Point → Bool
-is_missed None s = true
-is_missed (Some p) s = is_before p s
-
--- the later write's node did not know the earlier one
-abbrev pub is_conflict : Mark → Mark → Bool
-is_conflict x y = is_missed y.prev x.stamp && is_before x.stamp y.stamp
-
 -- the pairs of this mark with those later ones that conflict with it
 abbrev pub pairs_with : Mark → List Mark → List (Point × Point)
 pairs_with x [] = []
@@ -70,9 +60,6 @@ pairs_of [] marks = []
 pairs_of (x ∷ xs) marks = pairs_with x marks ++ pairs_of xs marks
 
 -- ---- names in order
-
-abbrev pub NamesRise : List (List ℕ) → Type 0
-NamesRise names = AllPairs (λ (a : List ℕ) (b : List ℕ). IsTrue (name_lt a b)) names
 
 abbrev pub names_below : List (List ℕ) → List ℕ → List (List ℕ)
 names_below names n = filter (λ (o : List ℕ). name_lt o n) names

@@ -13,7 +13,8 @@ use Rattle.pr_inval.specs.Points.{CoversPoint, from_of, to_of, target_of}
 use Rattle.pr_story.specs.History.{NodeEntry, journal, WasWritten, current_clock}
 use Rattle.pr_story.specs.Knowledge.{IsOf, IsNewest, IsGone, IsCoveredMark, Knows}
 use Rattle.pr_story.specs.declared.entry.Entry.{Entry}
-use Rattle.pr_story.specs.Told.{set_of, IsPrecise, IsDarkBetween}
+use Rattle.pr_story.specs.Told.{IsPrecise, IsDarkBetween}
+use Rattle.pr_sets.specs.Sets.{set_of}
 
 -- ---- honest messages
 

@@ -1,5 +1,6 @@
 -- What reads say, in the world's words.
 use Rattle.std.specs.Prelude.{ℕ, List, [], ◌∷◌, ◌≡◌, ◌<◌, Bool, true, false, None}
+use Rattle.pr_sets.specs.Sets.{set_of}
 use Rattle.pr_stamps.specs.Point.{Point, Before}
 use Rattle.pr_vectors.specs.Vector.{clock_of, Covers}
 use Rattle.pr_inval.specs.declared.write_rec.WriteRec.{WriteRec}
@@ -8,7 +9,7 @@ use Rattle.pr_story.specs.declared.event.Event.TheVariants.{Answered, Behind}
 use Rattle.pr_story.specs.declared.reply.Reply.{Reply}
 use Rattle.pr_story.specs.declared.reply.Reply.TheVariants as reply
 use Rattle.pr_story.specs.History.{Plan, NodeEntry, journal, WasWritten, current_vector}
-use Rattle.pr_story.specs.Told.{set_of, IsTold}
+use Rattle.pr_story.specs.Told.{IsTold}
 use Rattle.pr_story.specs.Knowledge.{held_body}
 use Rattle.pr_story.specs.Clients.{client_node, client_vector}
 

@@ -1,7 +1,7 @@
 -- What a search through a journal has found.
-use Rattle.std.specs.Prelude.{ℕ, Bool, List, ◌≡◌, ◌≢◌, ◌≤◌, ◌<◌, ◌+◌, ◌||◌, ◌&&◌, ◌⊎◌, ◌↔◌, IsTrue, false, nat_lt, nat_eq, cond, Option, None, Some, Contains}
-use Rattle.pr_stamps.specs.Point.{Point}
-use Rattle.pr_vectors.specs.Vector.{clock_of, Covers}
+use Rattle.std.specs.Prelude.{ℕ, Bool, List, ◌≡◌, ◌≢◌, ◌≤◌, ◌<◌, ◌⊎◌, ◌↔◌, IsTrue, false, cond, Option, None, Some, Contains}
+use Rattle.pr_stamps.specs.Point.{Point, Before, is_before}
+use Rattle.pr_vectors.specs.Vector.{Covers}
 use Rattle.pr_story.specs.declared.entry.Entry.{Entry}
 use Rattle.pr_names.specs.Span.{Span}
 use Rattle.pr_sets.specs.Spans.{has, IsSet, Meet}
@@ -12,9 +12,8 @@ use Rattle.pr_vectors.specs.Vector.{Between}
 use Rattle.pr_story.specs.History.{HasAccepted}
 use Rattle.pr_inval.specs.declared.row.Row.{Row}
 use Rattle.pr_inval.specs.declared.write_rec.WriteRec.{WriteRec}
-use Rattle.pr_stamps.specs.Point.{Before}
 use Rattle.pr_story.specs.declared.event.Event.{Event}
-use Rattle.pr_story.specs.declared.plain.named.Named.{Named}
+use Rattle.pr_stamps.specs.declared.newest.Newest.{Newest}
 use Rattle.pr_story.specs.Turns.{IsWriteToSend, IsNextWrite, IsOmitted}
 use Rattle.pr_story.specs.Told.{IsGreatestUpTo, IsLit, IsPrecise, IsTold, IsUntold}
 use Rattle.pr_story.specs.Knowledge.{TellsOf, HeardOf, Knows, NamesStamp, gone_in_rows, gone_told, IsNewestKnown, KnowsGone}
@@ -36,13 +35,6 @@ IsFirstAt T v c n (Some p) =
     (p.clock ≡ c) × (p.node < n) × Covers v p × (¬ T p)
     × ((m : ℕ) → m < p.node → Covers v (point c m) → T (point c m))
 
--- the greatest clock of the node, at most the vector's, up to which each point is T
-abbrev pub IsRun : (Point → Type 0) → List ℕ → ℕ → ℕ → Type 0
-IsRun T v n most =
-    (most ≤ clock_of v n)
-    × ((c : ℕ) → 1 ≤ c → c ≤ most → T (point c n))
-    × (most < clock_of v n → ¬ T (point (most + 1) n))
-
 -- the least untold point, or none where the set is precise
 abbrev pub IsFirstUntold : ℕ → List Entry → List Span → Option Point → Type 0
 IsFirstUntold n j set None = IsPrecise n j (has set)
@@ -60,22 +52,19 @@ IsStartOf n j sets names v = IsGreatestUpTo j (AreTold n j sets names) v
 
 -- ---- newest stamps
 
-abbrev pub is_before : Point → Point → Bool
-is_before s t = nat_lt s.clock t.clock || (nat_eq s.clock t.clock && nat_lt s.node t.node)
-
 -- the later of two; of equal stamps the first
-abbrev pub later_of : Option Named → Option Named → Option Named
+abbrev pub later_of : Option Newest → Option Newest → Option Newest
 later_of None b = b
 later_of (Some x) None = Some x
 later_of (Some x) (Some y) = cond (is_before x.stamp y.stamp) (Some y) (Some x)
 
 -- what a write names for the name
-abbrev pub IsOnly : WriteRec → List ℕ → Option Named → Type 0
+abbrev pub IsOnly : WriteRec → List ℕ → Option Newest → Type 0
 IsOnly write o None = write.name ≢ o
 IsOnly write o (Some n) = (write.name ≡ o) × (write.stamp ≡ n.stamp) × (write.gone ≡ n.gone)
 
 -- the greatest stamp that the rows name for the name, and whether the first row with it is gone
-abbrev pub IsNewestRow : List Row → List ℕ → Option Named → Type 0
+abbrev pub IsNewestRow : List Row → List ℕ → Option Newest → Type 0
 IsNewestRow rows o None = (row : Row) → Contains rows row → row.name ≢ o
 IsNewestRow rows o (Some n) =
     ((row : Row) × Contains rows row × (row.name ≡ o) × (row.newest ≡ n.stamp))
@@ -83,14 +72,14 @@ IsNewestRow rows o (Some n) =
     × (gone_in_rows rows o n.stamp ≡ Some n.gone)
 
 -- the greatest stamp that the event names for the name, and whether its write is gone
-abbrev pub IsNewestIn : Event → List ℕ → Option Named → Type 0
+abbrev pub IsNewestIn : Event → List ℕ → Option Newest → Type 0
 IsNewestIn event o None = (s : Point) → ¬ NamesStamp event o s
 IsNewestIn event o (Some n) =
     NamesStamp event o n.stamp × ((s : Point) → NamesStamp event o s → ¬ Before n.stamp s)
     × (gone_told event o n.stamp ≡ Some n.gone)
 
 -- the newest known stamp of the name, and whether its write is gone
-abbrev pub IsNewestOf : List Entry → List ℕ → Option Named → Type 0
+abbrev pub IsNewestOf : List Entry → List ℕ → Option Newest → Type 0
 IsNewestOf j o None = IsNewestKnown j o None
 IsNewestOf j o (Some n) = IsNewestKnown j o (Some n.stamp) × KnowsGone j o n.stamp n.gone
 

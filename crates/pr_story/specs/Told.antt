@@ -1,8 +1,8 @@
 -- What a node was told of: points, for a set of names, and the names that are lit or dark. A set of names is its test.
-use Rattle.std.specs.Prelude.{ℕ, List, [], ◌∷◌, ◌≡◌, ◌⊎◌, ◌≤◌, ◌<◌, ◌+◌, ◌++◌, Bool, not, cond, IsTrue, map, Contains, length, false}
-use Rattle.std.specs.List.{list_any}
+use Rattle.std.specs.Prelude.{ℕ, List, [], ◌∷◌, ◌≡◌, ◌⊎◌, ◌≤◌, ◌<◌, ◌+◌, ◌++◌, Bool, IsTrue, map, Contains, length, false}
 use Rattle.pr_stamps.specs.Point.{Point, Before}
 use Rattle.pr_vectors.specs.Vector.{clock_of, Covers, Between}
+use Rattle.pr_sets.specs.Sets.{rest_of}
 use Rattle.pr_sets.specs.Spans.{has, Meet}
 use Rattle.pr_names.specs.Span.{Span}
 use Rattle.pr_inval.specs.declared.kind.Kind.{Kind}
@@ -11,19 +11,6 @@ use Rattle.pr_story.specs.declared.entry.Entry.{Entry}
 use Rattle.pr_story.specs.History.{HasAccepted, current_clock, current_vector}
 
 -- ---- a node's sets
-
--- the names in none of the sets
-abbrev pub rest_of : List (List Span) → List ℕ → Bool
-rest_of sets o = not (list_any (λ set. has set o) sets)
-
--- the first of these sets that has the name, or else the rest
-abbrev pub first_with : List (List Span) → (List ℕ → Bool) → List ℕ → List ℕ → Bool
-first_with [] rest o = rest
-first_with (set ∷ sets) rest o = cond (has set o) (has set) (first_with sets rest o)
-
--- the one of a node's sets that has the name
-abbrev pub set_of : List (List Span) → List ℕ → List ℕ → Bool
-set_of sets o = first_with sets (rest_of sets) o
 
 -- a node's declared sets in order, and then the rest
 abbrev pub all_sets : List (List Span) → List (List ℕ → Bool)

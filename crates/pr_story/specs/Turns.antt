@@ -1,6 +1,6 @@
 -- Streams, and what the source of a stream sends next.
 use Rattle.std.specs.Prelude.{ℕ, List, [], ◌∷◌, ◌≡◌, ◌⊎◌, ◌≤◌, ◌<◌, ◌+◌, ◌&&◌, ◌||◌, ◌↔◌, max, cond, nat_eq, Bool, false, IsTrue, Some, Contains, AllPairs, length}
-use Rattle.pr_stamps.specs.Point.{Point, Before}
+use Rattle.pr_stamps.specs.Point.{Point, Before, is_this}
 use Rattle.pr_stamps.specs.declared.mark.Mark.{Mark}
 use Rattle.pr_vectors.specs.Vector.{Covers, Le, join_of, cut_of, Between, zero_vector, below_of}
 use Rattle.pr_sets.specs.Spans.{has, IsSetOf, IsAllBut}
@@ -15,11 +15,12 @@ use Rattle.pr_inval.specs.declared.step.Step.TheVariants as steps
 use Rattle.pr_inval.specs.declared.write_rec.WriteRec.{WriteRec}
 use Rattle.pr_story.specs.declared.event.Event.{Event}
 use Rattle.pr_story.specs.declared.event.Event.TheVariants.{Attached, Sent, Idle, Stale, Accepted, Gapped, Missing, Down}
-use Rattle.pr_inval.specs.Points.{to_of, is_this}
+use Rattle.pr_inval.specs.Points.{to_of}
 use Rattle.pr_inval.specs.Standing.{Standing}
 use Rattle.pr_story.specs.declared.entry.Entry.{Entry}
 use Rattle.pr_story.specs.History.{Plan, NodeEntry, SomeEvent, entries, current_vector}
-use Rattle.pr_story.specs.Told.{set_of, IsPrecise, IsDarkBetween}
+use Rattle.pr_story.specs.Told.{IsPrecise, IsDarkBetween}
+use Rattle.pr_sets.specs.Sets.{set_of}
 use Rattle.pr_story.specs.Knowledge.{Knows, WasNamed, IsNewestKnown, KnowsGone, held_body, cuts_of, floor_of, IsMark}
 
 -- ---- where a stream stands

@@ -4,7 +4,7 @@ use Rattle.std.specs.Prelude.{nat_le, ◌==◌, ◌&&◌}
 use Rattle.std.specs.List.{AllByRecursion}
 use Rattle.std.proofs.lemmas.Bool.{and_parts, and_from, eqb-true, leb-true, le-leb}
 use Rattle.std.proofs.lemmas.List.{append-nil, nil_from_length}
-use Rattle.pr_stamps.specs.Point.{Point, IsStamp}
+use Rattle.pr_stamps.specs.Point.{Point, IsStamp, IsPrev}
 use Rattle.pr_stamps.specs.declared.mark.Mark.{Mark}
 use Rattle.pr_names.specs.Name.{IsName}
 use Rattle.pr_names.specs.Span.{Span}
@@ -17,7 +17,7 @@ use Rattle.pr_inval.specs.declared.msg.Msg.{Msg}
 use Rattle.pr_wire.specs.declared.format.Format.{Format}
 use Rattle.pr_wire.specs.declared.format.Format.TheVariants.{One, Two}
 use Rattle.pr_wire.specs.Spelling.{content, eight, end_text, four, gone_text, kind_byte, kind_text, list_text, mark_text, name_text, prev_text, row_text, span_text, stamp_text, vector_text, write_text}
-use Rattle.pr_inval.specs.Messages.{IsEarlierRow, IsKind, IsPrev, IsRow}
+use Rattle.pr_inval.specs.Messages.{IsEarlierRow, IsKind, IsRow}
 use Rattle.pr_wire.specs.Messages.{HasFewMarks, HasSpelling, IsCounted, IsIn, IsKept}
 use Rattle.pr_wire.specs.Reading.{◌>>=◌, body_at, byte_at, bytes_at, checkpoint_at, content_at, eight_at, end_at, four_at, given, gone_at, imprecise_at, is_between, is_number, kind_at, last_before, list_at, mark_at, message_at, name_at, precise_at, row_at, row_before, stamp_at, target_at, vector_at, vector_le, write_at}
 use Rattle.pr_wire.proofs.Above.{le_true, true_le}

@@ -4,7 +4,7 @@ use Rattle.std.specs.Prelude.{not, nat_le, ◌&&◌, flat_map}
 use Rattle.std.specs.List.{AllByRecursion}
 use Rattle.std.proofs.lemmas.Bool.{and_parts, and_from, leb-true, le-leb, not-true, not_from_false, false_from_ne_true}
 use Rattle.std.proofs.lemmas.List.{append-nil}
-use Rattle.pr_stamps.specs.Point.{Point, IsStamp}
+use Rattle.pr_stamps.specs.Point.{Point, IsStamp, is_before}
 use Rattle.pr_stamps.specs.declared.mark.Mark.{Mark}
 use Rattle.pr_vectors.specs.Vector.{clock_of}
 use Rattle.pr_names.specs.Span.{Span, IsSpan}
@@ -13,9 +13,9 @@ use Rattle.pr_sets.proofs.Behind.{more_behind, set_more}
 use Rattle.pr_inval.specs.declared.row.Row.{Row}
 use Rattle.pr_wire.specs.declared.format.Format.{Format}
 use Rattle.pr_wire.specs.Spelling.{eight, gone_text, list_text, mark_text, name_text, row_text, span_text, stamp_text}
-use Rattle.pr_inval.specs.Messages.{AreInOrder, IsEarlierMark, IsEarlierRow, IsMark, IsRow}
+use Rattle.pr_inval.specs.Messages.{IsAscending, IsEarlierMark, IsEarlierRow, IsMark, IsRow}
 use Rattle.pr_wire.specs.Messages.{HasFewMarks}
-use Rattle.pr_wire.specs.Reading.{◌>>=◌, eight_at, given, gone_at, is_before, is_between, is_known, items_at, known_mark_at, last_before, list_at, mark_at, mark_before, name_at, row_at, row_before, span_at, stamp_at, target_at}
+use Rattle.pr_wire.specs.Reading.{◌>>=◌, eight_at, given, gone_at, is_between, is_known, items_at, known_mark_at, last_before, list_at, mark_at, mark_before, name_at, row_at, row_before, span_at, stamp_at, target_at}
 use Rattle.pr_wire.proofs.Fields.{IsBytes, IsField, Read, bind_some, eight_field, given_some, glue, some_is}
 use Rattle.pr_wire.proofs.NameFields.{name_field, span_field}
 use Rattle.pr_wire.proofs.StampFields.{IsGoneIn, before_true, between_true, gone_field, mark_field, stamp_field, true_before, true_between}
@@ -100,27 +100,27 @@ list_field item text valid field follows = record { takes = list_takes item text
 
 -- ---- a test on the last item, and an order
 
-pub rises_more : {A : Type 0} (r : A → A → Type 0) (before : A → A → Bool) → ((x y : A) → before x y ≡ true → r x y) → (ys : List A) (x : A) → AreInOrder r ys → last_before before ys x ≡ true → AreInOrder r (ys ++ x ∷ [])
+pub rises_more : {A : Type 0} (r : A → A → Type 0) (before : A → A → Bool) → ((x y : A) → before x y ≡ true → r x y) → (ys : List A) (x : A) → IsAscending r ys → last_before before ys x ≡ true → IsAscending r (ys ++ x ∷ [])
 unfolding last_before
 rises_more r before f [] x h e = (tt, tt)
 rises_more r before f (y ∷ []) x h e = (f y x e, (tt, tt))
 rises_more r before f (y ∷ (z ∷ zs)) x h e = (h.0, rises_more r before f (z ∷ zs) x h.1 e)
 
-more_rises : {A : Type 0} (r : A → A → Type 0) (before : A → A → Bool) → ((x y : A) → r x y → before x y ≡ true) → (ys : List A) (x : A) (xs : List A) → AreInOrder r (ys ++ x ∷ xs) → last_before before ys x ≡ true
+more_rises : {A : Type 0} (r : A → A → Type 0) (before : A → A → Bool) → ((x y : A) → r x y → before x y ≡ true) → (ys : List A) (x : A) (xs : List A) → IsAscending r (ys ++ x ∷ xs) → last_before before ys x ≡ true
 unfolding last_before
 more_rises r before f [] x xs h = refl
 more_rises r before f (y ∷ []) x xs h = f y x h.0
 more_rises r before f (y ∷ (z ∷ zs)) x xs h = more_rises r before f (z ∷ zs) x xs h.1
 
-pub follows_rise : {A : Type 0} (r : A → A → Type 0) (before : A → A → Bool) → ((x y : A) → before x y ≡ true → r x y) → (xs front : List A) → AreInOrder r front → Follows (last_before before) front xs → AreInOrder r (front ++ xs)
-follows_rise r before f [] front h order = subst (AreInOrder r) (sym (append-nil front)) h
+pub follows_rise : {A : Type 0} (r : A → A → Type 0) (before : A → A → Bool) → ((x y : A) → before x y ≡ true → r x y) → (xs front : List A) → IsAscending r front → Follows (last_before before) front xs → IsAscending r (front ++ xs)
+follows_rise r before f [] front h order = subst (IsAscending r) (sym (append-nil front)) h
 follows_rise r before f (x ∷ xs) front h order =
-    subst (AreInOrder r) (append_assoc front (x ∷ []) xs) (follows_rise r before f xs (front ++ x ∷ []) (rises_more r before f front x h order.0) order.1)
+    subst (IsAscending r) (append_assoc front (x ∷ []) xs) (follows_rise r before f xs (front ++ x ∷ []) (rises_more r before f front x h order.0) order.1)
 
-pub rises_follow : {A : Type 0} (r : A → A → Type 0) (before : A → A → Bool) → ((x y : A) → r x y → before x y ≡ true) → (xs front : List A) → AreInOrder r (front ++ xs) → Follows (last_before before) front xs
+pub rises_follow : {A : Type 0} (r : A → A → Type 0) (before : A → A → Bool) → ((x y : A) → r x y → before x y ≡ true) → (xs front : List A) → IsAscending r (front ++ xs) → Follows (last_before before) front xs
 rises_follow r before f [] front h = tt
 rises_follow r before f (x ∷ xs) front h =
-    (more_rises r before f front x xs h, rises_follow r before f xs (front ++ x ∷ []) (subst (AreInOrder r) (sym (append_assoc front (x ∷ []) xs)) h))
+    (more_rises r before f front x xs h, rises_follow r before f xs (front ++ x ∷ []) (subst (IsAscending r) (sym (append_assoc front (x ∷ []) xs)) h))
 
 -- ---- targets
 

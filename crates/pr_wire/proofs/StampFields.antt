@@ -2,14 +2,13 @@
 use Rattle.std.proofs.Common.{◌≡◌, ℕ, zero, suc, Bool, true, false, List, [], ◌∷◌, ◌++◌, Option, Some, None, refl, sym, ap, subst, ◌∙◌, append_assoc, arith, inl, inr}
 use Rattle.std.specs.Prelude.{nat_lt, nat_le, ◌==◌, ◌&&◌}
 use Rattle.std.proofs.lemmas.Bool.{and_parts, and_from, or_cases, or_left, or_right, eqb-true, eq-eqb, leb-true, le-leb, ltb-true, lt-ltb}
-use Rattle.pr_stamps.specs.Point.{Point, IsStamp, Before}
+use Rattle.pr_stamps.specs.Point.{Point, IsStamp, Before, IsPrev, is_before}
 use Rattle.pr_stamps.specs.declared.mark.Mark.{Mark}
 use Rattle.pr_vectors.specs.Vector.{Between, clock_of}
 use Rattle.pr_wire.specs.declared.format.Format.{Format}
 use Rattle.pr_wire.specs.declared.format.Format.TheVariants.{One, Two}
 use Rattle.pr_wire.specs.Spelling.{eight, gone_text, mark_text, prev_text, stamp_text}
-use Rattle.pr_inval.specs.Messages.{IsPrev}
-use Rattle.pr_wire.specs.Reading.{◌>>=◌, byte_at, eight_at, given, gone_at, is_before, is_between, is_prev, mark_at, prev_at, stamp_at, stamp_of}
+use Rattle.pr_wire.specs.Reading.{◌>>=◌, byte_at, eight_at, given, gone_at, is_between, is_prev, mark_at, prev_at, stamp_at, stamp_of}
 use Rattle.pr_wire.proofs.Fields.{IsBytes, IsBytes-rest, IsField, Read, bind_some, byte_field, eight_field, given_some, glue, one_byte, some_is}
 
 pub stamp_is : (clock node : ℕ) (p : Point) → stamp_of clock node ≡ Some p → (record { clock = clock; node = node } ≡ p) × IsStamp p
@@ -81,12 +80,10 @@ prev_field = record { takes = prev_takes; again = prev_again }
 -- ---- the order of stamps
 
 pub before_true : (s t : Point) → Before s t → is_before s t ≡ true
-unfolding is_before
 before_true s t (inl lt) = or_left _ _ (lt-ltb s.clock t.clock lt)
 before_true s t (inr same) = or_right _ _ (and_from _ _ (eq-eqb s.clock t.clock same.0) (lt-ltb s.node t.node same.1))
 
 pub true_before : (s t : Point) → is_before s t ≡ true → Before s t
-unfolding is_before
 true_before s t e =
     elim (or_cases (nat_lt s.clock t.clock) (s.clock == t.clock && nat_lt s.node t.node) e) [
       | inl lt ↦ inl (ltb-true _ _ lt)

@@ -1,5 +1,5 @@
 -- Which messages have a spelling.
-use Rattle.std.specs.Prelude.{◌≡◌, ◌<◌, ◌^◌, ℕ, false, length}
+use Rattle.std.specs.Prelude.{◌≡◌, ◌<◌, ◌^◌, false, length}
 use Rattle.std.specs.List.{AllByRecursion}
 use Rattle.pr_inval.specs.declared.row.Row.{Row}
 use Rattle.pr_inval.specs.declared.kind.Kind.{Kind}

@@ -1,7 +1,7 @@
 -- Reading a message from the front of bytes, field by field.
-use Rattle.std.specs.Prelude.{◌≡◌, ℕ, zero, suc, ◌+◌, Bool, true, false, not, cond, nat_lt, nat_le, ◌==◌, ◌&&◌, ◌||◌, List, [], ◌∷◌, ◌++◌, length, take, drop, Option, Some, None, Result, Ok, Err}
+use Rattle.std.specs.Prelude.{◌≡◌, ℕ, zero, suc, ◌+◌, Bool, true, false, not, cond, nat_lt, nat_le, ◌==◌, ◌&&◌, List, [], ◌∷◌, ◌++◌, length, take, drop, Option, Some, None, Result, Ok, Err}
 use Rattle.std.specs.Int.{w32, w64, from_be_bytes}
-use Rattle.pr_stamps.specs.Point.{Point}
+use Rattle.pr_stamps.specs.Point.{Point, is_before}
 use Rattle.pr_stamps.specs.declared.mark.Mark.{Mark}
 use Rattle.pr_vectors.specs.Vector.{clock_of, raised, zero_vector}
 use Rattle.pr_names.specs.Bound.{is_under}
@@ -102,10 +102,7 @@ prev_at (suc zero ∷ bytes) = do
   Some (Some stamp.0, stamp.1)
 prev_at (suc (suc flag) ∷ bytes) = None
 
--- the first stamp comes before the second
-unfoldable pub is_before : Point → Point → Bool
-is_before s t = nat_lt s.clock t.clock || (s.clock == t.clock && nat_lt s.node t.node)
-
+-- the stamp before this one is before it, if there is one
 abbrev pub is_prev : Option Point → Point → Bool
 is_prev None p = true
 is_prev (Some q) p = is_before q p

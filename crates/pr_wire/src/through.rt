@@ -1,6 +1,6 @@
 // A message goes through its bytes.
 ghost use Rattle.pr_wire.specs.Feeding.{HoldsJust};
-ghost use Rattle.pr_wire.specs.Messages.{IsMessage};
+ghost use Rattle.pr_inval.specs.Messages.{IsMessage};
 ghost use Rattle.std.specs.Prelude.{◌≡◌, IfOk};
 
 use crate::feed::Feed;

@@ -1,9 +1,6 @@
 // What the program is to do.
 
-use pr_stamps::Seq;
-
-/// Bytes in a list that keeps its allocator.
-pub type Bytes = Seq<u8>;
+use pr_stamps::Bytes;
 
 /// The job that the words ask for.
 #[derive(Drop)]

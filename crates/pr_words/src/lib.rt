@@ -14,6 +14,7 @@ mod reading;
 mod tests;
 
 pub use fault::WordsFault;
-pub use job::{Bytes, Job};
+pub use job::Job;
 pub use law::words_that_ask_are_calls;
+pub use pr_stamps::Bytes;
 pub use reading::read;

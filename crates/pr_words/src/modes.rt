@@ -6,11 +6,10 @@ ghost use Rattle.std.specs.Char.{is_ascii_alphanumeric};
 ghost use Rattle.std.specs.List.{list_all};
 ghost use Rattle.std.specs.Prelude.{◌≡◌, None, if◌then◌else◌};
 
-use crate::WordsFault;
 use crate::given::Given;
-use crate::job::{Bytes, Job};
 use crate::mode::Mode;
 use crate::number::number_within;
+use crate::{Bytes, Job, WordsFault};
 use pr_stamps::Seq;
 use std::alloc::Global;
 

@@ -1,5 +1,5 @@
 // What the tests are made of.
-ghost use Rattle.pr_node.specs.Ties.{AreApart};
+ghost use Rattle.pr_sets.specs.Sets.{AreApart};
 ghost use Rattle.std.specs.Prelude.{◌≡◌, ◌∷◌, [], IfSome};
 
 use crate::Node;

@@ -1,5 +1,6 @@
 // Messages that nobody sent.
-ghost use Rattle.pr_inval.specs.Messages.{IsKind, IsMessage, IsPrev, IsWrite};
+ghost use Rattle.pr_inval.specs.Messages.{IsKind, IsMessage, IsWrite};
+ghost use Rattle.pr_stamps.specs.Point.{IsPrev};
 ghost use Rattle.std.specs.Prelude.{IfSome, IsTrue};
 
 use crate::ranges::{kind_in_range, write_in_range};

@@ -1,5 +1,5 @@
 // Held bodies.
-ghost use Rattle.pr_inval.specs.Points.{is_this};
+ghost use Rattle.pr_stamps.specs.Point.{is_this};
 ghost use Rattle.pr_story.specs.Knowledge.{body_after, held_body};
 ghost use Rattle.std.specs.Prelude.{◌≡◌, IfOk, reverse};
 

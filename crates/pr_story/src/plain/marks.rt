@@ -2,7 +2,6 @@
 ghost use Rattle.pr_stamps.specs.declared.mark.Mark.{Mark};
 ghost use Rattle.pr_story.specs.Knowledge.{IsMark, known_mark, mark_at, mark_in_rows, mark_told};
 ghost use Rattle.pr_story.specs.Marking.{AreMarks, IsMarkedBy, MarksRise, if_at, mark_by_row, mark_by_write, marks_below, marks_past};
-ghost use Rattle.pr_story.specs.Search.{is_before};
 ghost use Rattle.pr_vectors.specs.Vector.{Covers};
 ghost use Rattle.std.specs.Prelude.{◌≡◌, ◌++◌, ◌↔◌, Contains, IfOk, OnOk, reverse};
 
@@ -14,14 +13,6 @@ use pr_names::Name;
 use pr_stamps::{Mark, NoMemory, Seq, Stamp};
 use pr_vectors::Vector;
 use std::alloc::Global;
-
-/// Whether the first stamp comes before the second.
-pub fn is_before(first: &Stamp, second: &Stamp) -> bool
-    ensures { result ≡ is_before first.now second.now }
-{
-    first.clock() < second.clock()
-        || first.clock() == second.clock() && first.node() < second.node()
-}
 
 // ---- the marks in order
 
@@ -54,7 +45,7 @@ fn add_below(list: &mut Seq<Mark>, marks: &[Mark], stamp: &Stamp) -> Result<(), 
     ensures { OnOk result (list.new ≡ list.old ++ marks_below marks.now stamp.now) }
 {
     for mark in marks {
-        if is_before(&mark.stamp, stamp) {
+        if mark.stamp.is_before(stamp) {
             list.push(*mark)?;
         }
     }
@@ -66,7 +57,7 @@ fn add_past(list: &mut Seq<Mark>, marks: &[Mark], stamp: &Stamp) -> Result<(), N
     ensures { OnOk result (list.new ≡ list.old ++ marks_past marks.now stamp.now) }
 {
     for mark in marks {
-        if is_before(stamp, &mark.stamp) {
+        if stamp.is_before(&mark.stamp) {
             list.push(*mark)?;
         }
     }

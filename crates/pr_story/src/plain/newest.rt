@@ -3,26 +3,27 @@ ghost use Rattle.pr_inval.specs.declared.row.Row.{Row};
 ghost use Rattle.pr_story.specs.Search.{IsNewestIn, IsNewestOf, IsNewestRow, IsOnly, later_of};
 ghost use Rattle.std.specs.Prelude.{◌≡◌, ◌∷◌, ◌++◌, [], List, reverse};
 
-use crate::plain::{Named, is_same};
+use crate::plain::is_same;
 use crate::{Entry, Event};
 use pr_inval::{Kind, Row, WriteRec};
 use pr_names::Name;
+use pr_stamps::Newest;
 
 // What the write names for the name.
-fn in_write(write: &WriteRec, name: &Name) -> Option<Named>
+fn in_write(write: &WriteRec, name: &Name) -> Option<Newest>
     ensures { IsOnly write.now name.now result }
 {
     if write.name != *name {
         return None;
     }
-    Some(Named {
+    Some(Newest {
         stamp: write.stamp,
         gone: write.gone,
     })
 }
 
 // The later of two; of equal stamps the first.
-fn later(a: &Option<Named>, b: &Option<Named>) -> Option<Named>
+fn later(a: &Option<Newest>, b: &Option<Newest>) -> Option<Newest>
     ensures { result ≡ later_of a.now b.now }
 {
     match (a, b) {
@@ -33,11 +34,11 @@ fn later(a: &Option<Named>, b: &Option<Named>) -> Option<Named>
 }
 
 // The newest of the rows, where this one follows.
-fn with_row(row: &Row, name: &Name, newest: &Option<Named>) -> Option<Named>
+fn with_row(row: &Row, name: &Name, newest: &Option<Newest>) -> Option<Newest>
     ensures { (rows : List Row) → IsNewestRow rows name.now newest.now → IsNewestRow (rows ++ row.now ∷ []) name.now result }
 {
     if is_same(&row.name, name) {
-        let here = Named {
+        let here = Newest {
             stamp: row.newest,
             gone: row.gone,
         };
@@ -47,7 +48,7 @@ fn with_row(row: &Row, name: &Name, newest: &Option<Named>) -> Option<Named>
 }
 
 // The newest of the rows for the name.
-fn in_rows(rows: &[Row], name: &Name) -> Option<Named>
+fn in_rows(rows: &[Row], name: &Name) -> Option<Newest>
     ensures { IsNewestRow rows.now name.now result }
 {
     let mut newest = None;
@@ -58,7 +59,7 @@ fn in_rows(rows: &[Row], name: &Name) -> Option<Named>
 }
 
 // The newest that the event names for the name.
-fn in_event(event: &Event, name: &Name) -> Option<Named>
+fn in_event(event: &Event, name: &Name) -> Option<Newest>
     ensures { IsNewestIn event.now name.now result }
 {
     match event {
@@ -74,7 +75,7 @@ fn in_event(event: &Event, name: &Name) -> Option<Named>
 
 /// The greatest stamp that the node knows for the name, by a write or by a row of a checkpoint, and whether that write is
 /// a delete, as the node was first told. One pass.
-pub fn newest_known(entries: &[Entry], name: &Name) -> Option<Named>
+pub fn newest_known(entries: &[Entry], name: &Name) -> Option<Newest>
     ensures { IsNewestOf (reverse entries.now) name.now result }
 {
     let mut newest = None;

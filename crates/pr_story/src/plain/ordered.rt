@@ -1,5 +1,6 @@
 // Names in order.
-ghost use Rattle.pr_story.specs.Marking.{AreInOrder, NamesRise, names_below, names_past};
+ghost use Rattle.pr_story.specs.Marking.{AreInOrder, names_below, names_past};
+ghost use Rattle.pr_names.specs.Order.{NamesRise};
 ghost use Rattle.std.specs.Prelude.{◌≡◌, ◌⊎◌, ◌++◌, ◌↔◌, ℕ, List, Contains, IfOk, IsTrue, OnOk};
 
 use crate::plain::is_same;

@@ -1,10 +1,10 @@
 // Conflicts.
 ghost use Rattle.pr_stamps.specs.declared.mark.Mark.{Mark};
 ghost use Rattle.pr_story.specs.Knowledge.{AreConflicts, IsFound, IsMark};
-ghost use Rattle.pr_story.specs.Marking.{MarksRise, is_conflict, is_missed, pairs_with};
+ghost use Rattle.pr_story.specs.Marking.{MarksRise, pairs_with};
 ghost use Rattle.std.specs.Prelude.{◌≡◌, ◌++◌, Contains, IfOk, OnOk, reverse};
 
-use crate::plain::marks::{is_before, marks_of};
+use crate::plain::marks::marks_of;
 use crate::plain::sets::set_of;
 use crate::plain::told::first_untold;
 use crate::{Entry, Found};
@@ -12,23 +12,6 @@ use pr_names::Name;
 use pr_sets::NameSet;
 use pr_stamps::{Mark, NoMemory, Seq, Stamp};
 use std::alloc::Global;
-
-// Whether a write whose node knew this newest stamp before it missed the other one.
-fn is_missed(prev: &Option<Stamp>, stamp: &Stamp) -> bool
-    ensures { result ≡ is_missed prev.now stamp.now }
-{
-    match prev {
-        Some(prev) => is_before(prev, stamp),
-        None => true,
-    }
-}
-
-// Whether the later write's node did not know the earlier one.
-fn is_conflict(earlier: &Mark, later: &Mark) -> bool
-    ensures { result ≡ is_conflict earlier.now later.now }
-{
-    is_missed(&later.prev, &earlier.stamp) && is_before(&earlier.stamp, &later.stamp)
-}
 
 // Adds the pairs of the mark with those later ones that conflict with it.
 fn add_pairs(
@@ -39,7 +22,7 @@ fn add_pairs(
     ensures { OnOk result (pairs.new ≡ pairs.old ++ pairs_with earlier.now marks.now) }
 {
     for later in marks {
-        if is_conflict(earlier, later) {
+        if earlier.conflicts_with(later) {
             pairs.push((earlier.stamp, later.stamp))?;
         }
     }

@@ -1,7 +1,7 @@
 // The sets of a node.
 ghost use Rattle.pr_names.specs.Name.{IsName};
 ghost use Rattle.pr_sets.specs.Spans.{has};
-ghost use Rattle.pr_story.specs.Told.{rest_of, set_of};
+ghost use Rattle.pr_sets.specs.Sets.{rest_of, set_of};
 ghost use Rattle.std.specs.Prelude.{◌≡◌, ℕ, IfOk, List};
 
 use pr_names::Name;

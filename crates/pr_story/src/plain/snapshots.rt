@@ -2,7 +2,8 @@
 ghost use Rattle.pr_names.specs.Name.{IsName};
 ghost use Rattle.pr_sets.specs.Spans.{IsAllBut, has};
 ghost use Rattle.pr_story.specs.Marking.{AreAllRows, IsRowAdded, IsRowOf};
-ghost use Rattle.pr_story.specs.Told.{IsPrecise, set_of};
+ghost use Rattle.pr_story.specs.Told.{IsPrecise};
+ghost use Rattle.pr_sets.specs.Sets.{set_of};
 ghost use Rattle.pr_story.specs.Turns.{IsSnapshot};
 ghost use Rattle.std.specs.Prelude.{◌≡◌, ◌↔◌, ℕ, List, cond, IfOk, IsTrue, OnOk, reverse};
 

@@ -2,7 +2,8 @@
 ghost use Rattle.pr_inval.specs.declared.kind.Kind.{Kind};
 ghost use Rattle.pr_sets.specs.Spans.{has};
 ghost use Rattle.pr_story.specs.History.{Accepts, HasAccepted};
-ghost use Rattle.pr_story.specs.Search.{IsFirstAt, IsFirstUntold, IsOutside, IsRun, point};
+ghost use Rattle.pr_story.specs.Search.{IsFirstAt, IsFirstUntold, IsOutside, point};
+ghost use Rattle.pr_vectors.specs.UpTo.{IsLastClock};
 ghost use Rattle.pr_story.specs.Told.{IsLastPrecise, IsTold, TellsPoint};
 ghost use Rattle.pr_vectors.specs.Vector.{Between, clock_of};
 ghost use Rattle.std.specs.Prelude.{◌≡◌, ◌≢◌, ◌≤◌, ◌<◌, ◌↔◌, ℕ, IsTrue, length, reverse};
@@ -126,7 +127,7 @@ pub fn first_untold(node: u32, entries: &[Entry], set: &NameSet) -> Option<Stamp
 // The greatest clock of the node n up to which each of its points is told.
 fn run(node: u32, entries: &[Entry], vector: &Vector, set: &NameSet, n: u32) -> u64
     requires { n < 32 }
-    ensures run { IsRun (IsTold node (reverse entries.now) (has set.now)) vector.now n result }
+    ensures run { IsLastClock (IsTold node (reverse entries.now) (has set.now)) vector.now n result }
     ensures range { result ≤ 4611686018427387903 }
 {
     let most = vector.at(n);

@@ -6,7 +6,7 @@ ghost use Rattle.std.specs.Prelude.{◌≡◌, [], List};
 use crate::fault::Fault;
 use crate::format::Format;
 use crate::reading::Cursor;
-use crate::reading::stamps::{is_before, is_between};
+use crate::reading::stamps::is_between;
 use pr_inval::Row;
 use pr_names::Name;
 use pr_sets::NameSet;
@@ -39,7 +39,7 @@ fn can_follow(marks: &Seq<Mark>, mark: &Mark) -> bool
     if marks.is_empty() {
         return true;
     }
-    is_before(&marks[marks.len() - 1].stamp, &mark.stamp)
+    marks[marks.len() - 1].stamp.is_before(&mark.stamp)
 }
 
 // Whether the row may stand behind these.
@@ -83,7 +83,7 @@ impl<'a> Cursor<'a> {
         ensures { Gives (λ x. (x, self.new.rest.now)) result (known_mark_at bounds.now.floor.now bounds.now.to.now newest.now self.old.rest.now) }
     {
         let mark = self.mark()?;
-        if is_between(bounds.floor, bounds.to, &mark.stamp) && !is_before(newest, &mark.stamp) {
+        if is_between(bounds.floor, bounds.to, &mark.stamp) && !newest.is_before(&mark.stamp) {
             Ok(mark)
         } else {
             Err(Fault::Bad)

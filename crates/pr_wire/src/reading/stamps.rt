@@ -1,5 +1,5 @@
 // Stamps, marks, and whether a write is a delete.
-ghost use Rattle.pr_wire.specs.Reading.{Gives, gone_at, is_before, is_between, is_prev, mark_at, prev_at, stamp_at, stamp_of};
+ghost use Rattle.pr_wire.specs.Reading.{Gives, gone_at, is_between, is_prev, mark_at, prev_at, stamp_at, stamp_of};
 ghost use Rattle.std.specs.Prelude.{◌≡◌, List};
 
 use crate::fault::Fault;
@@ -16,21 +16,12 @@ pub fn stamp_of(clock: u64, node: u8) -> Option<Stamp>
     Stamp::new(clock, u32::from(node))
 }
 
-/// Whether the first stamp comes before the second.
-#[tactic(auto, unfolding(crate::specs::Reading::is_before))]
-pub fn is_before(first: &Stamp, second: &Stamp) -> bool
-    ensures { result ≡ is_before first.now second.now }
-{
-    first.clock() < second.clock()
-        || (first.clock() == second.clock() && first.node() < second.node())
-}
-
 fn is_prev(prev: &Option<Stamp>, stamp: &Stamp) -> bool
     ensures { result ≡ is_prev prev.now stamp.now }
 {
     match prev {
         None => true,
-        Some(prev) => is_before(prev, stamp),
+        Some(prev) => prev.is_before(stamp),
     }
 }
 

@@ -1,6 +1,6 @@
 use Rattle.std.proofs.Common.{[], arith, length-set, ◌∙◌}
 use Rattle.pr_gaps.specs.Gaps.{IsTargeted}
-use Rattle.pr_gaps.proofs.Sets.{done_more, rest_more}
+use Rattle.pr_stamps.proofs.Places.{done_more, rest_more}
 use Rattle.pr_gaps.proofs.gaps.cover_rows.Goals as goal
 
 pub loop-index-preserved : goal.loop-index-preserved

@@ -2,7 +2,7 @@ use Rattle.std.proofs.Common.{◌≡◌, [], ℕ, List, ◌<◌, arith, length-s
 use Rattle.pr_vectors.specs.Vector.{clock_of}
 use Rattle.pr_names.specs.Span.{Span}
 use Rattle.pr_log.specs.Sets.{is_lit_at}
-use Rattle.pr_log.proofs.Places.{done_more, rest_more}
+use Rattle.pr_stamps.proofs.Places.{done_more, rest_more}
 use Rattle.pr_log.proofs.dark.forget_rows.Goals as goal
 
 pub loop-n-preserved : goal.loop-n-preserved

@@ -3,7 +3,7 @@ use Rattle.std.proofs.lemmas.Bool.Decides.{nat_tests}
 use Rattle.pr_vectors.specs.Vector.{clock_of}
 use Rattle.pr_names.specs.Span.{Span}
 use Rattle.pr_log.specs.Dark.{IsRowRefined}
-use Rattle.pr_log.proofs.Places.{done_more, rest_more}
+use Rattle.pr_stamps.proofs.Places.{done_more, rest_more}
 use Rattle.pr_log.proofs.dark.refine_rows.Goals as goal
 
 own_not : (a b : ℕ) → ¬ (a ≡ b) → nat_eq a b ≡ false

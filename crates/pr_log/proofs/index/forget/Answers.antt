@@ -2,7 +2,7 @@ use Rattle.std.proofs.Common.{[], ℕ, List, arith, length-set, ◌∙◌, subst
 use Rattle.pr_vectors.specs.Vector.{clock_of}
 use Rattle.pr_inval.specs.declared.write_rec.WriteRec.{WriteRec}
 use Rattle.pr_log.specs.Known.{IsForgottenUpTo}
-use Rattle.pr_log.proofs.Places.{done_more, rest_more}
+use Rattle.pr_stamps.proofs.Places.{done_more, rest_more}
 use Rattle.pr_log.proofs.index.forget.Goals as goal
 
 pub loop-n-preserved : goal.loop-n-preserved

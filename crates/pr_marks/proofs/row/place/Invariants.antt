@@ -1,6 +1,6 @@
 use Rattle.std.proofs.Common.{◌≡◌, ◌≤◌, ◌<◌, ℕ, length, get_or, false}
 use Rattle.pr_stamps.specs.declared.mark.Mark.{Mark}
-use Rattle.pr_marks.specs.Row.{is_before}
+use Rattle.pr_stamps.specs.Point.{is_before}
 use Rattle.pr_marks.proofs.row.place.Given as goal
 
 abbrev pub invariant-loop-at : goal.invariant-loop-at

@@ -1,7 +1,7 @@
 use Rattle.std.proofs.Common.{◌≡◌, None, sym, ◌∙◌, subst, ◌&&◌}
 use Rattle.std.specs.BTreeMap.{get}
 use Rattle.std.specs.Str.{bytes_eq}
-use Rattle.pr_bodies.specs.Bodies.{is_before}
+use Rattle.pr_stamps.specs.Point.{is_before}
 use Rattle.pr_bodies.specs.Keys.{key_at, key_cmp}
 use Rattle.pr_bodies.proofs.Keyed.{held_at, stays, left_at, gone_or_kept, both, same_name}
 use Rattle.pr_bodies.proofs.bodies.Bodies.settle.Goals as goal

@@ -1,8 +1,7 @@
 use Rattle.std.proofs.Common.{◌≡◌, List, ℕ, false, ◌&&◌}
 use Rattle.std.specs.Str.{bytes_eq}
 use Rattle.std.specs.BTreeMap.{get, btree_map_len}
-use Rattle.pr_stamps.specs.Point.{Point}
-use Rattle.pr_bodies.specs.Bodies.{is_before}
+use Rattle.pr_stamps.specs.Point.{Point, is_before}
 use Rattle.pr_bodies.specs.Keys.{key_at, key_cmp}
 use Rattle.pr_bodies.proofs.bodies.Bodies.settle.Given as goal
 

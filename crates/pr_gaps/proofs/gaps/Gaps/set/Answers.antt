@@ -1,4 +1,4 @@
-use Rattle.pr_gaps.specs.Gaps.{rest_of}
+use Rattle.pr_sets.specs.Sets.{rest_of}
 use Rattle.pr_gaps.proofs.Sets.{nth_set}
 use Rattle.pr_gaps.proofs.gaps.Gaps.set.Goals as goal
 

@@ -1,7 +1,7 @@
 use Rattle.std.proofs.Common.{ap, ◌∙◌, arith, sym, List}
 use Rattle.pr_names.specs.Span.{Span}
 use Rattle.pr_sets.specs.Spans.{has}
-use Rattle.pr_gaps.specs.Gaps.{rest_of}
+use Rattle.pr_sets.specs.Sets.{rest_of}
 use Rattle.pr_gaps.proofs.Sets.{found_set, no_set}
 use Rattle.pr_gaps.proofs.gaps.Gaps.set_of.Goals as goal
 

@@ -1,4 +1,4 @@
-use Rattle.std.proofs.Common.{◌≡◌, ap, ◌∙◌}
+use Rattle.std.proofs.Common.{ap, ◌∙◌}
 use Rattle.pr_stamps.specs.Point.{Point}
 use Rattle.pr_inval.specs.Standing.{was_sent}
 use Rattle.pr_inval.proofs.Bodies.{found}

@@ -1,8 +1,7 @@
-use Rattle.std.proofs.Common.{◌≡◌, ◌<◌, ap, ◌∙◌, sym, subst, map}
+use Rattle.std.proofs.Common.{◌<◌, ap, ◌∙◌, sym, subst, map}
 use Rattle.std.specs.Prelude.{◌||◌}
 use Rattle.pr_stamps.specs.Kept.{Kept}
-use Rattle.pr_stamps.specs.Point.{Point}
-use Rattle.pr_inval.specs.Points.{is_this}
+use Rattle.pr_stamps.specs.Point.{is_this}
 use Rattle.pr_inval.specs.Standing.{SentBody, was_sent}
 use Rattle.pr_inval.specs.declared.sent_body.SentBody as declared
 use Rattle.pr_inval.proofs.Bodies.{body_of, noted}

@@ -2,7 +2,9 @@ use Rattle.std.proofs.Common.{rules, sym, subst, not, IsTrue}
 use Rattle.std.proofs.lemmas.Fn.{filter_same}
 use Rattle.std.proofs.lemmas.List.Kept.{AllPairs-filter}
 use Rattle.pr_stamps.specs.declared.mark.Mark.{Mark}
-use Rattle.pr_marks.specs.Row.{Rises, is_before, is_covered}
+use Rattle.pr_marks.specs.Row.{Rises}
+use Rattle.pr_vectors.specs.Vector.{is_covered}
+use Rattle.pr_stamps.specs.Point.{is_before}
 use Rattle.pr_marks.proofs.row.Row.forget.Goals as goal
 
 pub invariant_of-self : goal.invariant_of-self

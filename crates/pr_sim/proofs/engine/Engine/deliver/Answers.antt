@@ -2,7 +2,7 @@ use Rattle.std.proofs.Common.{Some, None, ℕ, refl, sym, ◌∙◌, ap, subst, 
 use Rattle.pr_inval.specs.declared.msg.Msg.{Msg}
 use Rattle.pr_story.specs.Commands.{Gives, ToDeliver}
 use Rattle.pr_story.specs.History.{WasSent}
-use Rattle.pr_wire.specs.Messages.{IsMessage}
+use Rattle.pr_inval.specs.Messages.{IsMessage}
 use Rattle.pr_sim.specs.Commands.{GivesIt}
 use Rattle.pr_sim.proofs.Receiving.{at_node, delivered, found, not_found, place_is}
 use Rattle.pr_sim.proofs.Faults.{no_memory, not_made, stopped_same, this_cause}

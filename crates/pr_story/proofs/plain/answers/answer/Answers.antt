@@ -1,6 +1,6 @@
 use Rattle.std.proofs.Common.{reverse}
 use Rattle.pr_sets.specs.Spans.{has}
-use Rattle.pr_story.specs.Told.{set_of}
+use Rattle.pr_sets.specs.Sets.{set_of}
 use Rattle.pr_story.proofs.SameNames.{untold_same}
 use Rattle.pr_story.proofs.plain.answers.answer.Goals as goal
 

@@ -11,10 +11,10 @@ loop-mark-preserved c =
     (elim c.if-not-covers.branch [
       | then-not-covers+in_ok-push w ↦
           subst (λ (k : List Mark). AreAbove c.args.floor.now (take c.loop-mark.mark-index c.args.marks.now ++ c.mark-item.result ∷ []) k) (sym (w.kept-is ∙ w.in_ok-push.ensures.ok))
-          (above_more c.args.floor.now (take c.loop-mark.mark-index c.args.marks.now) c.loop-mark.kept c.mark-item.result (λ covered. let t = c.covers.ensures.1 covered in let f = w.if-not-covers.true in cc) c.loop-mark.invariant)
+          (above_more c.args.floor.now (take c.loop-mark.mark-index c.args.marks.now) c.loop-mark.kept c.mark-item.result (λ covered. let t = c.covers.ensures.covers.1 covered in let f = w.if-not-covers.true in cc) c.loop-mark.invariant)
       | else-not-covers w ↦
           subst (λ (k : List Mark). AreAbove c.args.floor.now (take c.loop-mark.mark-index c.args.marks.now ++ c.mark-item.result ∷ []) k) (sym w.kept-is)
-          (above_less c.args.floor.now (take c.loop-mark.mark-index c.args.marks.now) c.loop-mark.kept c.mark-item.result (c.covers.ensures.0 (let f = w.if-not-covers.false in cc)) c.loop-mark.invariant)
+          (above_less c.args.floor.now (take c.loop-mark.mark-index c.args.marks.now) c.loop-mark.kept c.mark-item.result (c.covers.ensures.covers.0 (let f = w.if-not-covers.false in cc)) c.loop-mark.invariant)
     ])
 
 pub returns-clause-rise : goal.returns-clause-rise

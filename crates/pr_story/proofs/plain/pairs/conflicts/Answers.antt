@@ -3,7 +3,7 @@ use Rattle.std.specs.Prelude.{Contains, ◌↔◌}
 use Rattle.pr_stamps.specs.declared.mark.Mark.{Mark}
 use Rattle.pr_sets.specs.Spans.{has}
 use Rattle.pr_story.specs.Knowledge.{IsMark}
-use Rattle.pr_story.specs.Told.{set_of}
+use Rattle.pr_sets.specs.Sets.{set_of}
 use Rattle.pr_story.proofs.Marking.{conflicts_same}
 use Rattle.pr_story.proofs.SameNames.{precise_same, untold_same}
 use Rattle.pr_story.proofs.plain.pairs.conflicts.Goals as goal

@@ -1,5 +1,5 @@
 use Rattle.std.proofs.Common.{◌≡◌, drop}
-use Rattle.pr_story.specs.Told.{first_with, rest_of}
+use Rattle.pr_sets.specs.Sets.{first_with, rest_of}
 use Rattle.pr_story.proofs.plain.sets.set_of.Given as goal
 
 abbrev pub invariant-loop-set : goal.invariant-loop-set

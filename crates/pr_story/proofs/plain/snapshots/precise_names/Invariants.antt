@@ -2,7 +2,8 @@ use Rattle.std.proofs.Common.{ℕ, List, ◌≤◌, drop, length, reverse}
 use Rattle.std.specs.Prelude.{◌↔◌, IsTrue}
 use Rattle.pr_names.specs.Name.{IsName}
 use Rattle.pr_sets.specs.Spans.{has}
-use Rattle.pr_story.specs.Told.{IsPrecise, first_with, rest_of}
+use Rattle.pr_story.specs.Told.{IsPrecise}
+use Rattle.pr_sets.specs.Sets.{first_with, rest_of}
 use Rattle.pr_story.proofs.plain.snapshots.precise_names.Given as goal
 
 abbrev pub invariant-loop-left : goal.invariant-loop-left

@@ -1,7 +1,8 @@
 use Rattle.std.proofs.Common.{reverse}
 use Rattle.std.specs.Prelude.{IsTrue}
 use Rattle.pr_sets.specs.Spans.{IsAllBut, IsComplement, has}
-use Rattle.pr_story.specs.Told.{IsPrecise, set_of}
+use Rattle.pr_story.specs.Told.{IsPrecise}
+use Rattle.pr_sets.specs.Sets.{set_of}
 use Rattle.pr_story.proofs.Snapshots.{all_but_precise}
 use Rattle.pr_story.proofs.Withholding.{if_ok}
 use Rattle.pr_story.proofs.plain.snapshots.target.Goals as goal

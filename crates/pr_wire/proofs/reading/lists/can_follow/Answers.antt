@@ -11,5 +11,5 @@ returns c =
     let last = c.index-marks-marks.result in
     let e : c.as_slice-marks.result.now ≡ c.args.marks.now = search rules in
     let some : 0 < length c.as_slice-marks.result.now = search rules in
-    c.is_before.ensures
+    c.is_before.ensures.test
     ∙ (last_is mark_before c.as_slice-marks.result.now c.args.mark.now last some ∙ ap (λ t. last_before mark_before t c.args.mark.now) e)

@@ -1,6 +1,6 @@
 // The newest write of a name that is known.
 
-use pr_stamps::Stamp;
+use crate::Stamp;
 
 /// A stamp, and whether its write deletes the object.
 #[derive(Clone, Copy, Debug, PartialEq, Eq)]
