@@ -9,7 +9,5 @@ mod messages;
 mod nodes;
 mod slots;
 mod streams;
-#[cfg(test)]
-mod tests;
 
 pub use engine::Engine;
