@@ -2,4 +2,8 @@ pub mod Places
 pub mod Running
 pub mod Commands
 pub mod Messages
+pub mod Making
+pub mod Stepping
+pub mod Phasing
+pub mod Settles
 pub mod Flowing

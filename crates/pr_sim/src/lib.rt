@@ -5,9 +5,17 @@ mod clients;
 mod delivering;
 mod engine;
 mod flowing;
+mod jobs;
+mod making;
 mod messages;
 mod nodes;
+mod settling;
 mod slots;
+mod stepping;
 mod streams;
+#[cfg(test)]
+mod tests;
 
 pub use engine::Engine;
+pub use jobs::good_phases_can_be_run;
+pub use stepping::good_commands_can_be_run;

@@ -1,0 +1,99 @@
+use Rattle.std.proofs.Common.{◌≡◌, ◌<◌, ◌≤◌, ◌+◌, ℕ, List, [], ◌++◌, Result, Ok, Err, refl, sym, ◌∙◌, ap, subst, length, get_or, take, drop, arith}
+use Rattle.std.specs.Prelude.{map, reverse}
+use Rattle.std.proofs.lemmas.List.{take_all}
+use Rattle.std.proofs.lemmas.Result.{err_from_is_err_and}
+use Rattle.pr_flow.specs.declared.stop.Stop.{Stop}
+use Rattle.pr_flow.specs.declared.stop.Stop.TheVariants as stops
+use Rattle.pr_script.specs.declared.owner.Owner.{Owner}
+use Rattle.pr_script.specs.declared.owner.Owner.TheVariants as owner
+use Rattle.pr_script.specs.Steps.{owners_of}
+use Rattle.pr_stamps.specs.declared.no_memory.NoMemory.{NoMemory}
+use Rattle.pr_story.specs.History.{NodeEntry}
+use Rattle.pr_story.specs.Scripts.{Job, JobGives}
+use Rattle.pr_story.proofs.JobAfterJob.{AreOfJobs}
+use Rattle.pr_text.specs.Steps.{job_of, jobs_of}
+use Rattle.pr_sim.specs.Phasing.{JobEnds}
+use Rattle.pr_sim.specs.Running.{IsRunning}
+use Rattle.pr_sim.proofs.JobParts.{ends_at_once, ends_there, ends_whole, goes_on, map_more, map_split, no_ok, ok_same, owners_can, still_owners, wires_end, wires_more, wires_same, wires_stop}
+use Rattle.pr_sim.proofs.JobsInOrder.{lines_can}
+use Rattle.pr_sim.proofs.engine.Engine.phase_in_order.Goals as goal
+
+pub returns-in_err-owners-clause-steps : goal.returns-in_err-owners-clause-steps
+returns-in_err-owners-clause-steps g c d attached h k =
+    let p = err_from_is_err_and c.from_residual.result c.from_residual.ensures.1 in
+    ends_at_once d attached h c.args.self.now (jobs_of c.args.inside.now) c.from_residual.result p.0 p.1 k
+
+pub loop-owner-init : goal.loop-owner-init
+loop-owner-init g c = record {
+  kept = c.requires.kept;
+  lines = c.requires.can.lines;
+  can = owners_can c.args.self.now c.args.inside.now c.requires.can.lines;
+  given = λ d attached h k. ([], k, refl);
+  wires = wires_same g.W.Wires.faults g.W.Wires.made g.W.Wires.out g.W.Wires.sound c.args.wires.now;
+}
+
+pub returns-in_err-stop-clause-steps : goal.returns-in_err-stop-clause-steps
+returns-in_err-stop-clause-steps g c d attached h k =
+    let inside = c.args.inside.now in
+    let os = owners_of inside in
+    let i = c.loop-owner.owner-index in
+    let l = c.loop-owner.invariant in
+    let same = c.as_slice-owner-items.ensures ∙ c.in_ok-owners.ensures in
+    let o = get_or c.as_slice-owner-items.result.now i (owner.Client 0) in
+    let lt : i < length os = subst (λ (xs : List Owner). i < length xs) same c.loop-owner-test.true in
+    let is : o ≡ get_or os i (owner.Client 0) = ap (λ (xs : List Owner). get_or xs i (owner.Client 0)) same in
+    let first = l.given d attached h k in
+    let p = err_from_is_err_and c.from_residual-in_err-stop.result c.from_residual-in_err-stop.ensures.1 in
+    ends_there d attached h c.job.new.self first.0 (map (job_of inside) (take i os)) (job_of inside o) first.2 (map (job_of inside) (drop (i + 1) os)) (jobs_of inside) c.from_residual-in_err-stop.result
+    (map_split (job_of inside) os i o (owner.Client 0) lt is) (no_ok stops.Went p.0 c.from_residual-in_err-stop.result p.1)
+    (subst (λ (x : Result Stop NoMemory). JobEnds (job_of inside o) d attached (first.0 ++ h) c.job.new.self x) (sym p.1) (c.in_err-stop.ensures.ends d attached (first.0 ++ h) first.1))
+
+pub returns-in_default : goal.returns-in_default
+returns-in_default g c =
+    let inside = c.args.inside.now in
+    let os = owners_of inside in
+    let i = c.loop-owner.owner-index in
+    let l = c.loop-owner.invariant in
+    let same = c.as_slice-owner-items.ensures ∙ c.in_ok-owners.ensures in
+    let o = get_or c.as_slice-owner-items.result.now i (owner.Client 0) in
+    let lt : i < length os = subst (λ (xs : List Owner). i < length xs) same c.loop-owner-test.true in
+    let is : o ≡ get_or os i (owner.Client 0) = ap (λ (xs : List Owner). get_or xs i (owner.Client 0)) same in
+    record {
+      steps = λ d attached h k.
+          let first = l.given d attached h k in
+          ends_there d attached h c.job.new.self first.0 (map (job_of inside) (take i os)) (job_of inside o) first.2 (map (job_of inside) (drop (i + 1) os)) (jobs_of inside) (Ok c.in_ok-stop.stop)
+          (map_split (job_of inside) os i o (owner.Client 0) lt is) (λ went. c.in_default.not-Went (ok_same c.in_ok-stop.stop stops.Went (Ok c.in_ok-stop.stop) refl went))
+          (c.in_ok-stop.ensures.ends d attached (first.0 ++ h) first.1);
+      wires = wires_stop g.W.Wires.faults g.W.Wires.made g.W.Wires.out g.W.Wires.sound i c.args.wires.now c.loop-owner.wires c.job.new.wires (Ok c.in_ok-stop.stop) (Ok c.in_ok-stop.stop) refl l.wires
+          (let most = c.requires.can.jobs in omega (arith, most, lt)) c.in_ok-stop.ensures.wires;
+    }
+
+pub loop-owner-preserved : goal.loop-owner-preserved
+loop-owner-preserved g c =
+    let inside = c.args.inside.now in
+    let os = owners_of inside in
+    let i = c.loop-owner.owner-index in
+    let l = c.loop-owner.invariant in
+    let same = c.as_slice-owner-items.ensures ∙ c.in_ok-owners.ensures in
+    let o = get_or c.as_slice-owner-items.result.now i (owner.Client 0) in
+    let lt : i < length os = subst (λ (xs : List Owner). i < length xs) same c.loop-owner-test.true in
+    let is : o ≡ get_or os i (owner.Client 0) = ap (λ (xs : List Owner). get_or xs i (owner.Client 0)) same in
+    let k = l.kept in
+    let then = subst (λ (x : Stop). JobEnds (job_of inside o) k.0 k.1 k.2 c.job.new.self (Ok x)) c.in-Went.is (c.in_ok-stop.ensures.ends k.0 k.1 k.2 k.3) in
+    record {
+      kept = (k.0, k.1, then.0 ++ k.2, then.1);
+      lines = lines_can k.0 k.1 k.2 (then.0 ++ k.2) c.loop-owner.self c.job.new.self inside k.3 then.1 l.lines;
+      can = still_owners k.0 k.1 k.2 (then.0 ++ k.2) c.loop-owner.self c.job.new.self os k.3 then.1 l.can;
+      given = λ d attached h r.
+          let first = l.given d attached h r in
+          let on = goes_on d attached h c.job.new.self first.0 (map (job_of inside) (take i os)) (job_of inside o) first.2 c.in_ok-stop.stop c.in-Went.is (c.in_ok-stop.ensures.ends d attached (first.0 ++ h) first.1) in
+          (on.0, on.1, subst (λ (js : List Job). AreOfJobs JobGives js (reverse on.0)) (sym (map_more (job_of inside) os i o (owner.Client 0) lt is)) on.2);
+      wires = wires_more g.W.Wires.faults g.W.Wires.made g.W.Wires.out g.W.Wires.sound i c.args.wires.now c.loop-owner.wires c.job.new.wires (Ok c.in_ok-stop.stop) l.wires c.in_ok-stop.ensures.wires;
+    }
+
+pub returns-clause-steps : goal.returns-clause-steps
+returns-clause-steps g c d attached h k =
+    let past = subst (λ (os : List Owner). length os ≤ c.loop-owner.owner-index) (c.as_slice-owner-items.ensures ∙ c.in_ok-owners.ensures) c.loop-owner-test.false in
+    ends_whole d attached h c.loop-owner.self (jobs_of c.args.inside.now)
+    (subst (λ (os : List Owner). (new : List NodeEntry) × IsRunning d attached (new ++ h) c.loop-owner.self × AreOfJobs JobGives (map (job_of c.args.inside.now) os) (reverse new))
+    (take_all c.loop-owner.owner-index (owners_of c.args.inside.now) past) (c.loop-owner.invariant.given d attached h k))

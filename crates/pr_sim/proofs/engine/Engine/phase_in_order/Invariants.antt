@@ -1,0 +1,21 @@
+use Rattle.std.specs.Prelude.{ℕ, List, ◌++◌, Bool, map, reverse, take}
+use Rattle.std.specs.List.{AllByRecursion}
+use Rattle.pr_script.specs.Steps.{owners_of}
+use Rattle.pr_story.specs.History.{NodeEntry}
+use Rattle.pr_story.specs.Scripts.{JobGives}
+use Rattle.pr_story.proofs.JobAfterJob.{AreOfJobs}
+use Rattle.pr_text.specs.Steps.{job_of}
+use Rattle.pr_sim.specs.Phasing.{CanDo, IsJobLine}
+use Rattle.pr_sim.specs.Running.{Declared, IsKept, IsRunning}
+use Rattle.pr_sim.proofs.JobParts.{WiresSoFar}
+use Rattle.pr_sim.proofs.engine.Engine.phase_in_order.Given as goal
+
+abbrev pub invariant-loop-owner : goal.invariant-loop-owner
+invariant-loop-owner g l = record {
+  kept : IsKept l.self;
+  lines : AllByRecursion (IsJobLine l.self) l.inside;
+  can : AllByRecursion (CanDo l.self) (owners_of l.inside);
+  given : (d : Declared) (attached : ℕ → Bool) (h : List NodeEntry) → IsRunning d attached h l.initial.self
+      → (new : List NodeEntry) × IsRunning d attached (new ++ h) l.self × AreOfJobs JobGives (map (job_of l.inside) (take l.owner-index (owners_of l.inside))) (reverse new);
+  wires : WiresSoFar g.W.Wires.faults g.W.Wires.made g.W.Wires.out g.W.Wires.sound l.owner-index l.initial.wires l.wires;
+}

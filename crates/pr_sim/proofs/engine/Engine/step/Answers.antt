@@ -1,0 +1,22 @@
+use Rattle.std.proofs.Common.{ap}
+use Rattle.pr_script.specs.declared.command.Command.{Command}
+use Rattle.pr_story.specs.Scripts.{Flow, Settle}
+use Rattle.pr_text.specs.Steps.{line_of}
+use Rattle.pr_sim.proofs.Stops.{ends_step, flow_step, no_wires, said_step}
+use Rattle.pr_sim.proofs.engine.Engine.step.Goals as goal
+
+pub returns-in-Flow-clause-steps : goal.returns-in-Flow-clause-steps
+returns-in-Flow-clause-steps g c d attached h k =
+    said_step d attached h c.flow.new.self c.args.command.now (Flow c.in-Flow.stream c.in-Flow.turns) c.stopped.result (ap (λ (x : Command). line_of x) c.in-Flow.is)
+    (flow_step d attached h c.flow.new.self c.in-Flow.stream c.in-Flow.turns c.flow.result c.stopped.result c.stopped.ensures (c.flow.ensures.flowed d attached h k))
+
+pub returns-in-Settle-clause-steps : goal.returns-in-Settle-clause-steps
+returns-in-Settle-clause-steps g c d attached h k =
+    said_step d attached h c.settle.new.self c.args.command.now Settle c.went.result (ap (λ (x : Command). line_of x) c.in-Settle.is)
+    (ends_step d attached h c.settle.new.self Settle c.settle.result c.went.result c.went.ensures (c.settle.ensures.ends d attached h k))
+
+pub returns-in_default : goal.returns-in_default
+returns-in_default g c = record {
+  steps = λ d attached h k. ends_step d attached h c.run.new.self (line_of c.args.command.now) c.run.result c.went-in_default.result c.went-in_default.ensures (c.run.ensures d attached h k);
+  wires = no_wires g.W.Wires.faults g.W.Wires.made g.W.Wires.out g.W.Wires.sound c.args.wires.now c.run.result c.went-in_default.result c.went-in_default.ensures;
+}
