@@ -1,0 +1,10 @@
+use Rattle.std.proofs.Common.{◌∙◌}
+use Rattle.pr_gen.specs.Topology.{back}
+use Rattle.pr_gen.proofs.Each.{none_added, one_added}
+use Rattle.pr_gen.proofs.topology.streams_back.Goals as goal
+
+pub loop-i-init : goal.loop-i-init
+loop-i-init c = none_added back c.args.list.now
+
+pub loop-i-preserved : goal.loop-i-preserved
+loop-i-preserved c = c.in_ok-push.ensures.ok ∙ one_added back c.loop-i.i _ _ _ c.loop-i.invariant c.in_ok-back.ensures

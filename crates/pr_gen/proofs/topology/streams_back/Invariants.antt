@@ -1,0 +1,6 @@
+use Rattle.std.proofs.Common.{◌≡◌, ◌++◌}
+use Rattle.pr_gen.specs.Topology.{each, back}
+use Rattle.pr_gen.proofs.topology.streams_back.Given as goal
+
+abbrev pub invariant-loop-i : goal.invariant-loop-i
+invariant-loop-i l = l.list ≡ l.fn.list ++ each l.i back
