@@ -2,9 +2,13 @@
 #![tactic(auto)]
 
 mod draws;
+mod law;
 mod making;
 mod naming;
 mod steps;
+#[cfg(test)]
+mod tests;
 mod topology;
 
+pub use law::{labels_tell_declarations_apart, workloads_are_good};
 pub use making::script;

@@ -1,6 +1,8 @@
 // The script of a seed and a size.
 ghost use Rattle.pr_gen.specs.Topology as topology;
 ghost use Rattle.pr_gen.specs.Workload.{drawn, numbered, workload};
+ghost use Rattle.pr_script.specs.Good.{IsGood};
+ghost use Rattle.pr_script.specs.Labels.{AreLabels};
 ghost use Rattle.pr_script.specs.declared.command.Command.TheVariants as commands_of;
 ghost use Rattle.std.specs.Prelude.{◌≡◌, ◌≤◌, ◌++◌, IfOk, OnOk};
 
@@ -22,10 +24,13 @@ const FIRST_STEP: u64 = 49;
 
 /// The script of a workload, drawn from the words of `rand_pcg`'s `Lcg64Xsh32` at this seed: eight nodes in a ring, each
 /// with a client and with streams to and from its neighbours, all attached, so many steps, and a settle (docs/SCRIPT.md
-/// lists the draws). A seed and a size have one script. The size is at most 90,000.
+/// lists the draws). A seed and a size have one script, which is good for a run as an accepted one is. The size is at
+/// most 90,000. It takes time and memory linear in the size.
 pub fn script(alloc: Global, seed: u64, size: u64) -> Result<Script, NoMemory>
     requires { size ≤ 90000 }
-    ensures { IfOk result (λ s. s ≡ workload seed size) }
+    ensures script { IfOk result (λ s. s ≡ workload seed size) }
+    ensures labels { IfOk result (λ s. AreLabels s.decls.list) }
+    ensures good { IfOk result (λ s. IsGood s) }
 {
     let decls = declared(alloc)?;
     let mut commands = Seq::new(alloc);

@@ -1,0 +1,15 @@
+// What holds of all workloads.
+ghost use Rattle.pr_gen.specs.Workload.{workload};
+ghost use Rattle.pr_script.specs.Good.{IsGood};
+ghost use Rattle.pr_script.specs.Labels.{AreLabels};
+ghost use Rattle.std.specs.Prelude.{◌≤◌, ℕ};
+
+/// Each workload of at most 90,000 steps is good for a run, as each accepted script is.
+pub fn workloads_are_good()
+    ensures { (seed size : ℕ) → size ≤ 90000 → IsGood (workload seed size) }
+{}
+
+/// The labels of a workload are labels, none stands twice among those of a kind, and there are few of a kind.
+pub fn labels_tell_declarations_apart()
+    ensures { (seed size : ℕ) → AreLabels (workload seed size).decls.list }
+{}
