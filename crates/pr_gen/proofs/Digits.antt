@@ -1,10 +1,7 @@
 -- Names of a letter, a slash and a number.
-use Rattle.std.proofs.Common.{◌≡◌, ℕ, ◌+◌, ◌/◌, ◌%◌, ◌<◌, ◌≤◌, true, List, [], ◌∷◌, ◌++◌, refl, sym, ap, ◌∙◌, arith}
+use Rattle.std.proofs.Common.{◌≡◌, ℕ, ◌+◌, ◌/◌, ◌%◌, ◌<◌, ◌≤◌, List, [], ◌∷◌, ◌++◌, sym, ap, ◌∙◌, arith}
 use Rattle.std.specs.Prelude.{decimal}
-use Rattle.std.proofs.lemmas.Bool.Decides.{nat_tests}
 use Rattle.std.proofs.lemmas.Fmt.{decimal_digit, decimal_step}
-use Rattle.pr_names.specs.Byte.{allowed}
-use Rattle.pr_names.specs.Name.{IsName}
 use Rattle.pr_gen.specs.Topology.{front}
 
 pub one_digit : (letter n : ℕ) → n < 10 → (97 + letter) ∷ 47 ∷ (48 + n % 10) ∷ [] ≡ front letter ++ decimal n

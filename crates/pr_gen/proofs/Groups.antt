@@ -1,8 +1,7 @@
 -- Sets of names with two beginnings.
-use Rattle.std.proofs.Common.{◌≡◌, ℕ, ◌<◌, Bool, true, false, ◌||◌, List, [], ◌∷◌, ◌++◌, refl, sym, ap, ◌∙◌, arith}
+use Rattle.std.proofs.Common.{◌≡◌, ℕ, Bool, true, false, ◌||◌, List, [], ◌∷◌, ◌++◌, refl, sym, ap, ◌∙◌}
 use Rattle.std.specs.List.{AllByRecursion}
 use Rattle.std.proofs.lemmas.List.Elements.{All-from_recursion}
-use Rattle.pr_names.specs.Name.{IsName}
 use Rattle.pr_names.specs.Span.{Span, IsSpan, holds}
 use Rattle.pr_sets.specs.Spans.{has, IsSet, IsUnion}
 use Rattle.pr_sets.specs.Text.{list_of}

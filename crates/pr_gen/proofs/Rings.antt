@@ -1,22 +1,19 @@
 -- The declarations are good, and their labels tell them apart.
-use Rattle.std.proofs.Common.{◌≡◌, ℕ, zero, suc, ◌+◌, ◌%◌, ◌<◌, ◌≤◌, ◌≢◌, Bool, true, false, not, ◌&&◌, ◌||◌, cond, List, [], ◌∷◌, ◌++◌, length, refl, sym, ap, subst, ◌∙◌, arith}
-use Rattle.std.specs.Prelude.{nat_lt, nat_eq, nat_le, AllPairs, IsTrue}
-use Rattle.std.specs.List.{AllByRecursion, list_all, list_any}
+use Rattle.std.proofs.Common.{◌≡◌, ℕ, zero, suc, ◌+◌, ◌<◌, ◌≤◌, ◌≢◌, Bool, true, false, not, ◌&&◌, ◌||◌, cond, List, [], ◌∷◌, ◌++◌, length, refl, sym, ap, arith}
+use Rattle.std.specs.Prelude.{nat_lt, nat_eq, AllPairs}
+use Rattle.std.specs.List.{AllByRecursion, list_all}
 use Rattle.std.specs.Str.{bytes_eq}
 use Rattle.std.proofs.lemmas.Bool.Decides.{nat_tests}
 use Rattle.std.proofs.lemmas.List.Elements.{All-from_recursion}
 use Rattle.std.proofs.lemmas.List.Kept.{AllPairs-cons}
-use Rattle.pr_names.specs.Byte.{allowed}
-use Rattle.pr_names.specs.Name.{IsName}
 use Rattle.pr_names.specs.Bound.{bound_lt}
 use Rattle.pr_names.specs.declared.bound.Bound.TheVariants.{At}
 use Rattle.pr_names.specs.Order.{name_lt}
 use Rattle.pr_names.specs.Span.{Span, IsSpan}
-use Rattle.pr_names.specs.Text.{all_from, whole}
+use Rattle.pr_names.specs.Text.{all_from}
 use Rattle.pr_sets.specs.Ends as ends
 use Rattle.pr_sets.specs.Spans.{has, Meet, IsSet}
 use Rattle.pr_sets.specs.Text.{list_of, with_part}
-use Rattle.pr_script.specs.declared.decl.Decl.{Decl}
 use Rattle.pr_script.specs.declared.kind.Kind.{Kind}
 use Rattle.pr_script.specs.declared.kind.Kind.TheVariants as kinds
 use Rattle.pr_script.specs.Good.{IsGoodDecl, AreGoodDecls}

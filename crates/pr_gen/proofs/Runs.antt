@@ -1,7 +1,7 @@
 -- The commands of a workload are good for a run.
-use Rattle.std.proofs.Common.{◌≡◌, ℕ, zero, suc, ◌+◌, ◌*◌, ◌<◌, ◌≤◌, Bool, true, false, cond, List, [], ◌∷◌, ◌++◌, length, refl, sym, ap, subst, ◌∙◌, arith, length-append}
-use Rattle.std.specs.Prelude.{nat_lt, decimal, map, None}
-use Rattle.std.specs.List.{AllByRecursion, fold, flat_map}
+use Rattle.std.proofs.Common.{◌≡◌, ℕ, zero, suc, ◌+◌, ◌*◌, ◌<◌, ◌≤◌, Bool, true, false, cond, List, [], ◌∷◌, ◌++◌, length, refl, sym, ap, subst, arith, length-append}
+use Rattle.std.specs.Prelude.{nat_lt}
+use Rattle.std.specs.List.{AllByRecursion, fold}
 use Rattle.rand_pcg.specs.Lcg.{Lcg}
 use Rattle.pr_script.specs.declared.command.Command.{Command}
 use Rattle.pr_script.specs.declared.command.Command.TheVariants as commands
@@ -9,8 +9,8 @@ use Rattle.pr_script.specs.declared.kind.Kind.TheVariants as kinds
 use Rattle.pr_script.specs.Good.{AreGoodSteps, IsGood, IsGoodCommand}
 use Rattle.pr_script.specs.Known.{attached_after, has_number, is_read, turns_after, with_number}
 use Rattle.pr_script.specs.Labels.{count_of}
-use Rattle.pr_script.specs.Steps.{AreWhole, Numbered, Step, Alone, is_phase, step_commands, steps_from, steps_of, turns_in, unnumbered}
-use Rattle.pr_gen.specs.Draws.{Drawn, below, seeded, word}
+use Rattle.pr_script.specs.Steps.{AreWhole, Numbered, Step, Alone, is_phase, steps_from, steps_of}
+use Rattle.pr_gen.specs.Draws.{below, seeded}
 use Rattle.pr_gen.specs.Topology.{declared, each}
 use Rattle.pr_gen.specs.Workload as workload
 use Rattle.pr_gen.specs.Workload.{numbered, step, steps, drawn}

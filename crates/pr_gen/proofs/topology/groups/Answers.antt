@@ -1,7 +1,5 @@
-use Rattle.std.proofs.Common.{refl, sym, ap, ◌∙◌, ◌++◌, List}
-use Rattle.pr_names.specs.Span.{Span}
+use Rattle.std.proofs.Common.{refl, sym, ◌∙◌}
 use Rattle.pr_sets.specs.Spans.{IsSet}
-use Rattle.pr_sets.specs.Text.{list_of}
 use Rattle.pr_gen.proofs.Groups.{union_is_list}
 use Rattle.pr_gen.proofs.Outcomes.{if_ok}
 use Rattle.pr_gen.proofs.topology.groups.Goals as goal
