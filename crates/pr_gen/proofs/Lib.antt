@@ -6,3 +6,5 @@ pub mod Outcomes
 pub mod Words
 pub mod Rings
 pub mod Runs
+pub mod Accepting
+pub mod Scripts

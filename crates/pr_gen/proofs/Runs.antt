@@ -20,9 +20,9 @@ use Rattle.pr_gen.proofs.Words.{below_range, text_is_short}
 
 -- ---- commands that stand alone and make few turns
 
-record IsPlain (c : Command) : Type 0 where
-  alone : is_phase c ≡ false
-  turns : (was : ℕ) → turns_after c was ≤ was + 4
+pub record IsPlain (c : Command) : Type 0 where
+  pub alone : is_phase c ≡ false
+  pub turns : (was : ℕ) → turns_after c was ≤ was + 4
 
 numbered_plain : (line : ℕ) (cs : List Command) → AllByRecursion IsPlain cs → AllByRecursion (λ (c : Numbered). IsPlain c.1) (numbered line cs)
 unfolding numbered
@@ -50,10 +50,10 @@ few_turns (c ∷ cs) was h = let t = h.0.turns was in let r = few_turns cs (turn
 -- ---- the steps
 
 -- all streams are attached
-sixteen : List ℕ
+unfoldable pub sixteen : List ℕ
 sixteen = 0 ∷ 1 ∷ 2 ∷ 3 ∷ 4 ∷ 5 ∷ 6 ∷ 7 ∷ 8 ∷ 9 ∷ 10 ∷ 11 ∷ 12 ∷ 13 ∷ 14 ∷ 15 ∷ []
 
-is_attached : (n : ℕ) → n < 16 → has_number sixteen n ≡ true
+pub is_attached : (n : ℕ) → n < 16 → has_number sixteen n ≡ true
 unfolding sixteen
 is_attached zero h = refl
 is_attached (suc zero) h = refl
@@ -73,7 +73,7 @@ is_attached (suc (suc (suc (suc (suc (suc (suc (suc (suc (suc (suc (suc (suc (su
 is_attached (suc (suc (suc (suc (suc (suc (suc (suc (suc (suc (suc (suc (suc (suc (suc zero))))))))))))))) h = refl
 is_attached (suc (suc (suc (suc (suc (suc (suc (suc (suc (suc (suc (suc (suc (suc (suc (suc n)))))))))))))))) h = absurd (omega arith)
 
-attached_stays : (n : ℕ) → n < 16 → with_number sixteen n ≡ sixteen
+pub attached_stays : (n : ℕ) → n < 16 → with_number sixteen n ≡ sixteen
 attached_stays n h = rw (is_attached n h) refl
 
 -- a command that is good where all streams are attached, and leaves them so
@@ -127,12 +127,12 @@ step_is g = let kind = (below 10 g).0 in one_of (nat_lt kind 5) (nat_lt kind 7) 
 
 -- ---- one after the other
 
-steps_plain : (n : ℕ) (g : Lcg) → AllByRecursion IsPlain (steps n g).0
+pub steps_plain : (n : ℕ) (g : Lcg) → AllByRecursion IsPlain (steps n g).0
 unfolding steps
 steps_plain zero g = tt
 steps_plain (suc n) g = ((step_is g).plain, steps_plain n (step g).1)
 
-length-steps : (n : ℕ) (g : Lcg) → length (steps n g).0 ≡ n
+pub length-steps : (n : ℕ) (g : Lcg) → length (steps n g).0 ≡ n
 unfolding steps
 length-steps zero g = refl
 length-steps (suc n) g = let l = length-steps n (step g).1 in omega (arith, l)
@@ -164,10 +164,10 @@ unfolding each numbered steps_from sixteen
 attached_good line cs rest =
     (stream 0 (omega arith), (stream 1 (omega arith), (stream 2 (omega arith), (stream 3 (omega arith), (stream 4 (omega arith), (stream 5 (omega arith), (stream 6 (omega arith), (stream 7 (omega arith), (stream 8 (omega arith), (stream 9 (omega arith), (stream 10 (omega arith), (stream 11 (omega arith), (stream 12 (omega arith), (stream 13 (omega arith), (stream 14 (omega arith), (stream 15 (omega arith), rest _))))))))))))))))
 
-attach_plain : (n : ℕ) → IsPlain (commands.Attach n)
+pub attach_plain : (n : ℕ) → IsPlain (commands.Attach n)
 attach_plain n = record { alone = refl; turns = λ was. omega arith }
 
-settle_plain : IsPlain commands.Settle
+pub settle_plain : IsPlain commands.Settle
 settle_plain = record { alone = refl; turns = λ was. omega arith }
 
 all_plain : (seed size : ℕ) → AllByRecursion IsPlain (workload.commands seed size)

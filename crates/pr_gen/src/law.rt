@@ -2,7 +2,9 @@
 ghost use Rattle.pr_gen.specs.Workload.{workload};
 ghost use Rattle.pr_script.specs.Good.{IsGood};
 ghost use Rattle.pr_script.specs.Labels.{AreLabels};
-ghost use Rattle.std.specs.Prelude.{◌≤◌, ℕ};
+ghost use Rattle.pr_script.specs.Printing.{script_text};
+ghost use Rattle.pr_script.specs.Reading.{Means};
+ghost use Rattle.std.specs.Prelude.{◌≤◌, ℕ, Ok};
 
 /// Each workload of at most 90,000 steps is good for a run, as each accepted script is.
 pub fn workloads_are_good()
@@ -12,4 +14,9 @@ pub fn workloads_are_good()
 /// The labels of a workload are labels, none stands twice among those of a kind, and there are few of a kind.
 pub fn labels_tell_declarations_apart()
     ensures { (seed size : ℕ) → AreLabels (workload seed size).decls.list }
+{}
+
+/// What a workload is printed as is read as that workload, to the numbers of its lines.
+pub fn printed_workloads_read_back()
+    ensures { (seed size : ℕ) → size ≤ 90000 → Means (script_text (workload seed size)) (Ok (workload seed size)) }
 {}

@@ -10,5 +10,5 @@ mod steps;
 mod tests;
 mod topology;
 
-pub use law::{labels_tell_declarations_apart, workloads_are_good};
+pub use law::{labels_tell_declarations_apart, printed_workloads_read_back, workloads_are_good};
 pub use making::script;
