@@ -1,7 +1,7 @@
 -- What a script's good commands ask for is there.
-use Rattle.std.proofs.Common.{◌≡◌, ◌⊎◌, ℕ, ◌<◌, ◌≤◌, List, [], ◌∷◌, ◌++◌, inl, inr, refl, sym, ◌∙◌, ap, subst, length, nat_eq, arith}
-use Rattle.std.specs.Prelude.{true, false, Bool, IsTrue, Some, None, Option, ◌||◌, ◌&&◌, not, cond, ◌==◌, if◌then◌else◌}
-use Rattle.std.specs.List.{AllByRecursion, filter, list_any}
+use Rattle.std.proofs.Common.{◌≡◌, ℕ, ◌<◌, ◌≤◌, List, [], ◌∷◌, ◌++◌, inl, inr, refl, sym, ◌∙◌, ap, subst, length, nat_eq, arith}
+use Rattle.std.specs.Prelude.{true, false, Bool, IsTrue, ◌||◌, ◌&&◌, not, cond}
+use Rattle.std.specs.List.{AllByRecursion}
 use Rattle.std.proofs.lemmas.Bool.{cases_eq}
 use Rattle.std.proofs.lemmas.Bool.Decides.{Decides-eqb}
 use Rattle.pr_script.specs.declared.command.Command.{Command}
@@ -10,12 +10,11 @@ use Rattle.pr_script.specs.declared.decl.Decl.{Decl}
 use Rattle.pr_script.specs.declared.kind.Kind.TheVariants as kinds
 use Rattle.pr_script.specs.Good.{IsGoodCommand, IsGoodJobLine, IsNumberOf}
 use Rattle.pr_script.specs.Known.{has_number, with_number, without_number}
-use Rattle.pr_script.specs.Labels.{count_of}
 use Rattle.pr_story.specs.History.{NodeEntry}
 use Rattle.pr_sim.specs.Making.{declared_of}
 use Rattle.pr_script.specs.Steps.{Numbered}
 use Rattle.pr_sim.specs.Phasing.{GoodPhaseCanRun, IsJobLine}
-use Rattle.pr_sim.specs.Running.{HasAttached, IsRunning}
+use Rattle.pr_sim.specs.Running.{IsRunning}
 use Rattle.pr_sim.specs.Stepping.{AreAttached, AttachedTogether, CanRun, CanSend, GoodCanRun}
 use Rattle.pr_sim.specs.declared.engine.Engine.{Engine}
 

@@ -1,6 +1,6 @@
 -- The jobs of a phase, one after the other.
-use Rattle.std.proofs.Common.{◌≡◌, ◌⊎◌, ℕ, ◌<◌, ◌≤◌, ◌+◌, List, [], ◌∷◌, ◌++◌, Result, Ok, Err, inl, inr, refl, sym, ◌∙◌, ap, subst, length, get_or, take, drop, arith, zero, suc}
-use Rattle.std.specs.Prelude.{true, false, Bool, IsTrue, cond, reverse}
+use Rattle.std.proofs.Common.{◌≡◌, ℕ, ◌<◌, ◌≤◌, ◌+◌, List, [], ◌∷◌, ◌++◌, Result, refl, sym, ◌∙◌, ap, subst, length, get_or, take, drop, arith, zero, suc}
+use Rattle.std.specs.Prelude.{true, false, Bool, cond}
 use Rattle.std.specs.List.{AllByRecursion, filter, flat_map, fold}
 use Rattle.std.proofs.lemmas.Grind.{flat_map-append}
 use Rattle.std.proofs.lemmas.List.{append_assoc, append-nil, take-append-drop, take_more}
@@ -8,7 +8,6 @@ use Rattle.std.proofs.lemmas.List.Elements.{filter-append, filter_more}
 use Rattle.pr_inval.specs.declared.node_fault.NodeFault.{NodeFault}
 use Rattle.pr_script.specs.declared.command.Command.{Command as Said}
 use Rattle.pr_script.specs.declared.command.Command.TheVariants as commands
-use Rattle.pr_script.specs.declared.owner.Owner.{Owner}
 use Rattle.pr_script.specs.declared.owner.Owner.TheVariants as owner
 use Rattle.pr_script.specs.Known.{turns_after}
 use Rattle.pr_script.specs.Steps.{Numbered, owner_of, turns_in}

@@ -1,6 +1,6 @@
 -- How the commands of a script end.
-use Rattle.std.proofs.Common.{◌≡◌, ◌⊎◌, ℕ, ◌<◌, ◌≤◌, ◌+◌, List, [], ◌∷◌, ◌++◌, Result, Ok, Err, inl, inr, refl, sym, ◌∙◌, ap, subst, length, get_or, nat_eq, arith}
-use Rattle.std.specs.Prelude.{true, false, Bool, IsTrue, Some, None, Option, ◌||◌, ◌&&◌, not, cond, reverse}
+use Rattle.std.proofs.Common.{◌≡◌, ◌⊎◌, ℕ, ◌+◌, List, [], ◌∷◌, Result, Ok, Err, inl, inr, refl, sym, ap, subst, arith}
+use Rattle.std.specs.Prelude.{Bool}
 use Rattle.pr_inval.specs.declared.node_fault.NodeFault.{NodeFault}
 use Rattle.pr_inval.specs.declared.node_fault.NodeFault.TheVariants as faults
 use Rattle.pr_flow.specs.declared.stop.Stop.{Stop}
@@ -11,13 +11,13 @@ use Rattle.pr_script.specs.declared.command.Command.TheVariants as said_commands
 use Rattle.pr_script.specs.declared.want.Want.{Want}
 use Rattle.pr_story.specs.Commands.{Command}
 use Rattle.pr_story.specs.History.{NodeEntry}
-use Rattle.pr_story.specs.Scripts.{JobAfterJob, Line, LineBegins, LineGives, Precedes, Single, Expect, Detach, Flow, Phase, attached_after}
+use Rattle.pr_story.specs.Scripts.{JobAfterJob, Line, LineGives, Precedes, Single, Expect, Flow, Phase, attached_after}
 use Rattle.pr_story.proofs.Begun.{nothing_begins}
 use Rattle.pr_story.proofs.InOrder.{pairs_none}
 use Rattle.pr_text.specs.Steps.{line_of}
 use Rattle.pr_sim.specs.Commands.{Ends, GivesOne, IsNoLie, StepEnds, attached_of}
 use Rattle.pr_sim.specs.Flowing.{FlowEndsSo, StopsByWires}
-use Rattle.pr_sim.specs.Running.{Declared, IsRunning, Tells}
+use Rattle.pr_sim.specs.Running.{Declared, IsRunning}
 use Rattle.pr_sim.specs.Stepping.{IsStopOf, StepsByWires, went_of}
 use Rattle.pr_sim.specs.declared.engine.Engine.{Engine}
 

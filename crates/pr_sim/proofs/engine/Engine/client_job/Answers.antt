@@ -1,4 +1,4 @@
-use Rattle.std.proofs.Common.{◌≡◌, ◌≤◌, ◌+◌, List, ◌++◌, Ok, Err, subst, sym, length, reverse, take, drop}
+use Rattle.std.proofs.Common.{◌+◌, List, ◌++◌, Ok, Err, subst, sym, reverse, take, drop}
 use Rattle.std.proofs.lemmas.List.{take_all}
 use Rattle.pr_script.specs.Steps.{Numbered}
 use Rattle.pr_story.specs.Commands.{Command}

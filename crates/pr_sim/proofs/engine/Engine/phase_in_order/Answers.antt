@@ -1,4 +1,4 @@
-use Rattle.std.proofs.Common.{◌≡◌, ◌<◌, ◌≤◌, ◌+◌, ℕ, List, [], ◌++◌, Result, Ok, Err, refl, sym, ◌∙◌, ap, subst, length, get_or, take, drop, arith}
+use Rattle.std.proofs.Common.{◌≡◌, ◌<◌, ◌≤◌, ◌+◌, List, [], ◌++◌, Result, Ok, refl, sym, ◌∙◌, ap, subst, length, get_or, take, drop, arith}
 use Rattle.std.specs.Prelude.{map, reverse}
 use Rattle.std.proofs.lemmas.List.{take_all}
 use Rattle.std.proofs.lemmas.Result.{err_from_is_err_and}
@@ -14,7 +14,7 @@ use Rattle.pr_story.proofs.JobAfterJob.{AreOfJobs}
 use Rattle.pr_text.specs.Steps.{job_of, jobs_of}
 use Rattle.pr_sim.specs.Phasing.{JobEnds}
 use Rattle.pr_sim.specs.Running.{IsRunning}
-use Rattle.pr_sim.proofs.JobParts.{ends_at_once, ends_there, ends_whole, goes_on, map_more, map_split, no_ok, ok_same, owners_can, still_owners, wires_end, wires_more, wires_same, wires_stop}
+use Rattle.pr_sim.proofs.JobParts.{ends_at_once, ends_there, ends_whole, goes_on, map_more, map_split, no_ok, ok_same, owners_can, still_owners, wires_more, wires_same, wires_stop}
 use Rattle.pr_sim.proofs.JobsInOrder.{lines_can}
 use Rattle.pr_sim.proofs.engine.Engine.phase_in_order.Goals as goal
 

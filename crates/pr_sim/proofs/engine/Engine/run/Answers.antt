@@ -1,8 +1,8 @@
-use Rattle.std.proofs.Common.{◌≡◌, ℕ, List, [], ◌∷◌, refl, ap, subst}
+use Rattle.std.proofs.Common.{ℕ, List, [], refl, ap, subst}
 use Rattle.std.specs.Prelude.{false, true}
 use Rattle.pr_script.specs.declared.command.Command.{Command}
 use Rattle.pr_story.specs.Commands as story
-use Rattle.pr_story.specs.Scripts.{Detach, Expect, Phase}
+use Rattle.pr_story.specs.Scripts.{Detach}
 use Rattle.pr_sim.specs.Commands.{GivesOne}
 use Rattle.pr_sim.proofs.Stops.{said_ends, silent_ends, word_ends}
 use Rattle.pr_text.specs.Steps.{line_of}
