@@ -1,2 +1,9 @@
 pub mod Told
-pub mod OneWord
+pub mod Counting
+pub mod Held
+pub mod Coming
+pub mod Steps
+pub mod Promised
+pub mod Written
+pub mod Lines
+pub mod Runs

@@ -1,29 +1,73 @@
--- When the answers of the top call come, and which line tells them.
-use Rattle.std.specs.Prelude.{◌≡◌, ◌⊎◌, ◌≤◌, ◌∷◌, [], ℕ, List, Option, None, Some, codes, take, length, IfSome}
-use Rattle.std.specs.Io.KnownBytes.{Appends, IsAtEnd}
+-- When the answers of the top call come, and what each leaves.
+use Rattle.std.specs.Prelude.{◌≡◌, ◌⊎◌, ℕ, List, Option, Some, None, IfSome, codes}
+use Rattle.pr_ports.specs.Faults.{HasRisen}
+use Rattle.pr_script.specs.declared.script.Script.{Script}
+use Rattle.pr_text.specs.Endings.{bad_cause, error_line}
+use Rattle.pr_words.specs.declared.job.Job.{Job}
+use Rattle.pr_words.specs.declared.job.Job.TheVariants as jobs
+use Rattle.pr_top.specs.Reading.{HasBadLine, HasScript}
+use Rattle.pr_top.specs.Runs.{HasRun, WritesLine}
+use Rattle.pr_top.specs.Sizes.{IsTooLarge}
 use Rattle.pr_top.specs.declared.status.Status.{Status}
-use Rattle.pr_top.specs.declared.status.Status.TheVariants.{Usage, BadScript, ReadFault, TooLarge}
+use Rattle.pr_top.specs.declared.status.Status.TheVariants as status
 
--- the most bytes of a script
-abbrev pub most_bytes : ℕ
-most_bytes = 4194304
+-- the words ask for a job that is done here: a script in one thread
+abbrev pub IsAskedFor : Option Job → Type 0
+IsAskedFor (Some jobs.Sim) = Unit {0}
+IsAskedFor _ = ⊥
 
--- the one list of words that is accepted
-abbrev pub IsSim : List (List ℕ) → Type 0
-IsSim words = words ≡ codes "sim" ∷ []
+-- the source and the sink at some moment: the bytes that are left and those that were written, where they are told, and
+-- the counts of faults
+pub record Ports : Type 0 where
+  pub left : Option (List ℕ)
+  pub read_faults : ℕ
+  pub text : Option (List ℕ)
+  pub write_faults : ℕ
 
--- the source was read to its end, within the limit
-abbrev pub IsReadToItsEnd : Option (List ℕ) → Option (List ℕ) → Type 0
-IsReadToItsEnd before after = IfSome before (λ all. length all ≤ most_bytes) × IsAtEnd after
+abbrev pub ports_of : {S K : Type 0} → (S → Option (List ℕ)) → (S → ℕ) → (K → Option (List ℕ)) → (K → ℕ) → S → K → Ports
+ports_of left read_faults text write_faults source sink = record {
+  left = left source;
+  read_faults = read_faults source;
+  text = text sink;
+  write_faults = write_faults sink;
+}
 
 -- the line that alone is written where there is no run
 abbrev pub fault_line : Status → Option (List ℕ)
-fault_line Usage = Some (codes "error usage\n")
-fault_line (BadScript line why) = Some (codes "error line 0 why 13\n")
-fault_line ReadFault = Some (codes "error read\n")
-fault_line TooLarge = Some (codes "error too large\n")
+fault_line status.Usage = Some (error_line (codes "usage"))
+fault_line (status.BadScript line why) = Some (error_line (bad_cause line why))
+fault_line status.ReadFault = Some (error_line (codes "read"))
+fault_line status.TooLarge = Some (error_line (codes "too large"))
 fault_line _ = None
 
--- the sink took the bytes; where it failed, it took their front
-abbrev pub Took : Option (List ℕ) → Option (List ℕ) → List ℕ → Type 0 → Type 0
-Took before after bytes failed = Appends before after bytes ⊎ (failed × ((n : ℕ) × Appends before after (take n bytes)))
+-- the status is one of a run; want of memory may also come before there is one
+abbrev pub IsOfRun : Status → Type 0
+IsOfRun status.Ok = Unit {0}
+IsOfRun (status.Unmet line) = Unit {0}
+IsOfRun (status.Worn at) = Unit {0}
+IsOfRun status.WriteFault = Unit {0}
+IsOfRun (status.Lied stream number sent got) = Unit {0}
+IsOfRun _ = ⊥
+
+-- a script was read, and run with this status
+abbrev pub RunsScript : Ports → Ports → Status → Type 0
+RunsScript a b result =
+    (s : Script) × HasScript a.left b.left s × HasRun result s (HasRisen a.write_faults b.write_faults) a.text b.text
+
+-- the call's answer, where the words are accepted or not
+pub record Answers (accepted : Type 0) (a b : Ports) (result : Status) : Type 0 where
+  -- Usage comes just where the words are not accepted, unless memory ran out
+  pub usage : result ≡ status.Usage → ¬ accepted
+  pub refused : ¬ accepted → (result ≡ status.Usage) ⊎ (result ≡ status.NoMemory)
+  -- a fault only where the object's own count rose
+  pub read_fault : result ≡ status.ReadFault → HasRisen a.read_faults b.read_faults
+  pub write_fault : result ≡ status.WriteFault → HasRisen a.write_faults b.write_faults
+  -- the script is too large, or it was read to its end and this is its first bad line
+  pub too_large : result ≡ status.TooLarge → IfSome a.left IsTooLarge
+  pub bad_script : (line why : ℕ) → result ≡ status.BadScript line why → HasBadLine a.left b.left line why
+  -- where there is no run, the fault's line alone is written
+  pub fault : IfSome (fault_line result) (λ line. WritesLine (HasRisen a.write_faults b.write_faults) line a.text b.text)
+  -- where there is one, the script was read to its end, and the transcript is as the headline says
+  pub run : IsOfRun result → RunsScript a b result
+  pub no_memory : result ≡ status.NoMemory
+      → RunsScript a b result ⊎ WritesLine (HasRisen a.write_faults b.write_faults) (error_line (codes "no memory")) a.text b.text

@@ -1,2 +1,7 @@
+pub mod Sizes
+pub mod Headline
+pub mod Runs
+pub mod Reading
+pub mod Progress
+pub mod Stopping
 pub mod Answers
-pub mod Ends

@@ -1,44 +1,58 @@
-// The script's bytes.
-ghost use Rattle.std.specs.Prelude.{◌≡◌, ◌≤◌, ◌<◌, length, IfOk, IfSome, IsErrOf};
-ghost use Rattle.std.specs.Io.KnownBytes.{IsAtEnd};
-ghost use Rattle.pr_ports.specs.Faults.{HasRisen};
+// A script is read.
+ghost use Rattle.pr_script.specs.Answers.{Holds};
+ghost use Rattle.pr_top.specs.Reading.{IsReadSo, IsFinished};
+ghost use Rattle.std.specs.Prelude.{◌≤◌, List, ℕ};
 
+use crate::size::Size;
 use pr_ports::Source;
+use pr_script::{Reader, Script, ScriptFault};
 use std::alloc::Global;
 
-/// Why a source was not read to its end.
-#[derive(Clone, Copy, Debug, PartialEq, Eq)]
+/// Why no script was read.
+#[derive(Clone, Copy)]
 pub enum ReadError {
     Failed,
     TooLarge,
+    Bad { line: u64, why: u8 },
     NoMemory,
 }
 
 // How many bytes a read asks for.
 const PIECE: usize = 4096;
 
-/// All the bytes of the source, of which there may be `most`. At most a piece more is read.
-pub fn read_all<S: Source>(alloc: Global, source: &mut S, most: usize) -> Result<Vec<u8>, ReadError>
-    requires { most < 4294967296 }
-    ensures bytes { IfOk result (λ v. IfSome (S.left source.old) (λ all. v.items ≡ all)) }
-    ensures within { IfOk result (λ v. length v.items ≤ most) }
-    ensures ended { IfOk result (λ _. IsAtEnd (S.left source.new)) }
+/// Reads a script piece by piece, in time linear in its bytes. At most a piece more than the limit is read.
+pub fn read_script<S: Source>(alloc: Global, source: &mut S) -> Result<Script, ReadError>
+    ensures so { IsReadSo (S.left source.old) (S.left source.new) (S.faults source.old) (S.faults source.new) result }
     ensures rises { S.faults source.old ≤ S.faults source.new }
-    ensures failed { IsErrOf result ReadError.Failed → HasRisen (S.faults source.old) (S.faults source.new) }
-    ensures too_large { IsErrOf result ReadError.TooLarge → IfSome (S.left source.old) (λ all. most < length all) }
 {
-    let mut bytes = Vec::new(alloc);
+    let mut reader = Reader::new(alloc);
+    let mut size = Size::new();
     let mut buf = [0u8; PIECE];
-    while bytes.len() <= most {
-        match source.read(&mut buf) {
-            Ok(0) => return Ok(bytes),
-            Ok(n) => {
-                if bytes.extend_from_slice(&buf[..n]).is_err() {
-                    return Err(ReadError::NoMemory);
-                }
-            }
+    loop {
+        let len = match source.read(&mut buf) {
+            Ok(len) => len,
             Err(_) => return Err(ReadError::Failed),
+        };
+        if len == 0 {
+            return finish(reader);
         }
+        let piece = &buf[..len];
+        let Some(now) = size.with(piece) else {
+            return Err(ReadError::TooLarge);
+        };
+        if reader.push(piece).is_err() {
+            return Err(ReadError::NoMemory);
+        }
+        size = now;
     }
-    Err(ReadError::TooLarge)
+}
+
+fn finish(reader: Reader) -> Result<Script, ReadError>
+    ensures { (bytes : List ℕ) → Holds reader bytes → IsFinished bytes result }
+{
+    match reader.finish() {
+        Ok(script) => Ok(script),
+        Err(ScriptFault::Bad { line, why }) => Err(ReadError::Bad { line, why }),
+        Err(ScriptFault::NoMemory) => Err(ReadError::NoMemory),
+    }
 }

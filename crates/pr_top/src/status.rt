@@ -1,24 +1,42 @@
 // How a call of the program ended.
 
-/// How the program ended. Its number is the exit status: 0 to 5 in this order, 7 for `NoMemory` and 9 for `Worn`.
-#[derive(Clone, Copy, Debug, PartialEq, Eq)]
+use pr_script::Bytes;
+
+/// How the program ended. Each has an exit status and a last line (docs/TRANSCRIPT.md).
+#[derive(Drop)]
 pub enum Status {
-    /// The script was run and the whole transcript written.
+    /// All was done, and the whole transcript written.
     Ok,
     /// The words are not accepted.
     Usage,
-    /// The script is none; why 13 at line 0 says no more.
-    BadScript { line: u64, why: u8 },
+    /// The script's first bad line, counted from 1, and the least of the twelve rules that it breaks.
+    BadScript {
+        line: u64,
+        why: u8,
+    },
     /// The source failed.
     ReadFault,
     /// The sink failed.
     WriteFault,
-    /// The script has more than 4,194,304 bytes.
+    /// The script has more than 4,194,304 bytes, or goes on behind its 100,000th line.
     TooLarge,
+    /// A wire gave other bytes than those that were put for this message of the stream.
+    Lied {
+        stream: u32,
+        number: u64,
+        sent: Bytes,
+        got: Bytes,
+    },
     /// There was no memory.
     NoMemory,
-    /// A write would have had a clock above `MAX`. No run comes so far, which is not proved yet.
-    Worn { at: u64 },
+    /// All was done, and the expectation on this line is the first that was not met.
+    Unmet {
+        line: u64,
+    },
+    /// A time or a clock would be past the greatest, which needs as many events.
+    Worn {
+        at: u64,
+    },
 }
 
 impl Status {
@@ -31,7 +49,9 @@ impl Status {
             Status::ReadFault => 3,
             Status::WriteFault => 4,
             Status::TooLarge => 5,
+            Status::Lied { .. } => 6,
             Status::NoMemory => 7,
+            Status::Unmet { .. } => 8,
             Status::Worn { .. } => 9,
         }
     }

@@ -1,142 +1,152 @@
-use crate::{Status, practi};
+mod worked;
+mod worked_more;
+
+use crate::practi;
 use pr_ports::{MemorySink, MemorySource};
+use pr_wires::TrueWires;
 use std::alloc::Global;
 use std::test::Fail;
 
-const HEADS: &[u8] = b"node A *\nnode B *\nclient c A\nclient d B\nstream s A B *\n";
+const FIRST: &[u8] = b"node A *\nnode B *\nclient c A\nclient d B\nstream s A B *\nattach s\n\
+    write c a/x \"hi\"\nsend s\ndeliver s 1\nread c a/x\nread d a/x\nsend s\n";
 
-const FIRST: &[u8] =
-    b"attach s\nwrite c a/x \"hi\"\nsend s\ndeliver s 1\nread c a/x\nread d a/x\nsend s\n";
+const FIRST_TEXT: &[u8] = b"node A *\nnode B *\nclient c A\nclient d B\nstream s A B *\n\
+    attach s at -\nwrite c a/x \"hi\" 1@A over - after -\n\
+    send s 1 precise a/x 1@A over - from - to A:1\naccept s 1 at A:1\n\
+    read c a/x value 1@A \"hi\" at A:1\nread d a/x body 1@A at A:1\nidle s\nok 12\n";
 
-// A call over memory: its status, and the text that the sink took.
+// A call of `sim`, and how its source and its sink behave: the bytes of a call, and the calls that fail.
+#[derive(Clone, Copy)]
+struct Ports<'a> {
+    source: (usize, &'a [u64]),
+    sink: (usize, &'a [u64]),
+}
+
+const SOUND: Ports<'static> = Ports {
+    source: (4096, &[]),
+    sink: (65536, &[]),
+};
+
+// What a call answers, as an exit status, and the text that its sink took.
 fn called(
     alloc: Global,
-    words: &[String],
+    words: &[&str],
     script: &[u8],
-    piece: usize,
-    fail: &[u64],
-    sink: (usize, &[u64]),
-) -> Result<(Status, Vec<u8>), Fail> {
-    let source = Vec::from_slice(alloc, script)?;
-    let mut source = MemorySource::new(source, piece.max(1), Vec::from_slice(alloc, fail)?);
-    let fail = Vec::from_slice(alloc, sink.1)?;
-    let mut sink = MemorySink::new(alloc, 65536, sink.0.max(1), fail)
+    ports: &Ports,
+) -> Result<(u8, Vec<u8>), Fail> {
+    let mut list = Vec::new(alloc);
+    for word in words {
+        list.push(String::from_str(alloc, word)?)?;
+    }
+    let fail = Vec::from_slice(alloc, ports.source.1)?;
+    let bytes = Vec::from_slice(alloc, script)?;
+    let mut source = MemorySource::new(bytes, ports.source.0.max(1), fail);
+    let fail = Vec::from_slice(alloc, ports.sink.1)?;
+    let mut sink = MemorySink::new(alloc, 65536, ports.sink.0.max(1), fail)
         .ok()
         .ok_or("no memory")?;
-    let status = practi(alloc, words, &mut source, &mut sink);
-    Ok((status, Vec::from_slice(alloc, sink.bytes())?))
+    let status = practi(alloc, &list, &mut source, &mut sink, &mut TrueWires::new());
+    Ok((status.number(), Vec::from_slice(alloc, sink.bytes())?))
 }
 
-fn words(alloc: Global, list: &[&str]) -> Result<Vec<String>, Fail> {
-    let mut words = Vec::new(alloc);
-    for word in list {
-        words.push(String::from_str(alloc, word)?)?;
-    }
-    Ok(words)
+fn answers(
+    alloc: Global,
+    script: &[u8],
+    ports: &Ports,
+    status: u8,
+    text: &[u8],
+) -> Result<bool, Fail> {
+    let (number, told) = called(alloc, &["sim"], script, ports)?;
+    Ok(number == status && told.as_slice() == text)
 }
 
-fn joined(alloc: Global, parts: &[&[u8]]) -> Result<Vec<u8>, Fail> {
-    let mut all = Vec::new(alloc);
-    for part in parts {
-        all.extend_from_slice(part)?;
-    }
-    Ok(all)
+fn gives(alloc: Global, script: &[u8], text: &[u8]) -> Result<bool, Fail> {
+    answers(alloc, script, &SOUND, 0, text)
 }
 
 #[test]
 fn first_path(rt: HostRuntime) -> Result<(), Fail> {
     let alloc = rt.alloc();
-    let sim = words(alloc, &["sim"])?;
-    let script = joined(alloc, &[HEADS, FIRST])?;
-    let lines = b"attach s at -\nwrite c a/x \"hi\" 1@A over - after -\n\
-        send s 1 precise a/x 1@A over - from - to A:1\naccept s 1 at A:1\n\
-        read c a/x value 1@A \"hi\" at A:1\nread d a/x body 1@A at A:1\nidle s\nok 12\n";
-    let all = joined(alloc, &[HEADS, lines])?;
-    let (status, text) = called(alloc, &sim, &script, 10, &[], (5, &[]))?;
-    assert_eq!(rt; (status, text.as_slice()), (Status::Ok, all.as_slice()));
-    let (status, text) = called(alloc, &sim, &script, 10, &[3], (5, &[]))?;
-    assert_eq!(rt;
-        (status, text.as_slice()),
-        (Status::ReadFault, b"error read\n".as_slice())
-    );
-    let (status, text) = called(alloc, &sim, &script, 10, &[], (5, &[2]))?;
-    assert_eq!(rt;
-        (status, text.as_slice()),
-        (Status::WriteFault, b"node ".as_slice())
-    );
+    assert!(rt; gives(alloc, FIRST, FIRST_TEXT)?);
+    let small = Ports {
+        source: (10, &[]),
+        sink: (5, &[]),
+    };
+    assert!(rt; answers(alloc, FIRST, &small, 0, FIRST_TEXT)?);
+    assert!(rt; gives(alloc, b"", b"ok 0\n")?);
     Ok(())
 }
 
-fn usage(alloc: Global, list: &[&str]) -> Result<bool, Fail> {
-    let (status, text) = called(alloc, &words(alloc, list)?, b"", 10, &[], (100, &[]))?;
-    Ok(status == Status::Usage && text.as_slice() == b"error usage\n".as_slice())
+#[test]
+fn ports_that_fail(rt: HostRuntime) -> Result<(), Fail> {
+    let alloc = rt.alloc();
+    let source = Ports {
+        source: (10, &[3]),
+        sink: (5, &[]),
+    };
+    assert!(rt; answers(alloc, FIRST, &source, 3, b"error read\n")?);
+    let sink = Ports {
+        source: (10, &[]),
+        sink: (5, &[2]),
+    };
+    assert!(rt; answers(alloc, FIRST, &sink, 4, b"node ")?);
+    Ok(())
 }
 
 #[test]
-fn words_and_sizes(rt: HostRuntime) -> Result<(), Fail> {
+fn an_expectation_that_is_not_met(rt: HostRuntime) -> Result<(), Fail> {
+    let script = b"node A *\nclient c A\nwrite c a/x \"hi\"\nread c a/x\nexpect value \"ho\"\n\
+        write c a/x \"hu\"\n";
+    let text = b"node A *\nclient c A\nwrite c a/x \"hi\" 1@A over - after -\n\
+        read c a/x value 1@A \"hi\" at A:1\nwrite c a/x \"hu\" 2@A over 1@A after A:1\nok 5\n\
+        unmet 5\n";
+    assert!(rt; answers(rt.alloc(), script, &SOUND, 8, text)?);
+    Ok(())
+}
+
+#[test]
+fn words_that_are_not_accepted(rt: HostRuntime) -> Result<(), Fail> {
     let alloc = rt.alloc();
-    assert!(rt; usage(alloc, &[])?);
-    assert!(rt; usage(alloc, &["sim", "x"])?);
-    assert!(rt; usage(alloc, &["run"])?);
-    let sim = words(alloc, &["sim"])?;
-    let (status, text) = called(alloc, &sim, b"", 10, &[], (100, &[]))?;
-    assert_eq!(rt;
-        (status, text.as_slice()),
-        (Status::Ok, b"ok 0\n".as_slice())
-    );
-    let mut large = vec![in alloc; b'#'; 4194304]?;
-    let (status, text) = called(alloc, &sim, &large, 4194304, &[], (100, &[]))?;
-    assert_eq!(rt; status, Status::BadScript { line: 0, why: 13 });
-    assert_eq!(rt; text.as_slice(), b"error line 0 why 13\n".as_slice());
-    large.push(b'#')?;
-    let (status, text) = called(alloc, &sim, &large, 4194304, &[], (100, &[]))?;
-    assert_eq!(rt;
-        (status, text.as_slice()),
-        (Status::TooLarge, b"error too large\n".as_slice())
-    );
+    let lists: [&[&str]; 4] = [&[], &["sim", "x"], &["gen"], &["sim", "--seed", "7"]];
+    for words in lists {
+        let (status, text) = called(alloc, words, b"", &SOUND)?;
+        assert_eq!(rt; status, 1);
+        assert_eq!(rt; text.as_slice(), b"error usage\n".as_slice());
+    }
     Ok(())
 }
 
 #[test]
 fn scripts_that_are_refused(rt: HostRuntime) -> Result<(), Fail> {
     let alloc = rt.alloc();
-    let sim = words(alloc, &["sim"])?;
-    let mut clients = joined(alloc, &[b"node A *\nnode B *\n"])?;
-    for n in 0..257u32 {
-        let line = format!(in alloc; "client c{n} A\n")?;
-        clients.extend_from_slice(line.as_bytes())?;
-    }
-    let mut long = joined(alloc, &[HEADS, b"write c a \""])?;
-    for _ in 0..1025 {
-        long.push(b'x')?;
-    }
-    long.extend_from_slice(b"\"\n")?;
-    let tails: [&[u8]; 12] = [
-        b"cut A\n",
-        b"attach s",
-        b"attach t\n",
-        b"client A B\n",
-        b"write c a \"\x7f\"\n",
-        b"write c a \"\\41\"\n",
-        b"write c  a \"\"\n",
-        b"stream t A B *\n",
-        b"send s\n",
-        b"attach s\ndeliver s 0\n",
-        b"attach s\ndeliver s 01\n",
-        b"read c a \n",
-    ];
-    let mut scripts = Vec::new(alloc);
-    scripts.push(clients)?;
-    scripts.push(long)?;
-    scripts.push(joined(alloc, &[b"node A *\n"])?)?;
-    scripts.push(joined(alloc, &[b"client c A\nnode A *\nnode B *\n"])?)?;
-    for tail in tails {
-        scripts.push(joined(alloc, &[HEADS, tail])?)?;
-    }
-    for script in &scripts {
-        let (status, text) = called(alloc, &sim, script, 4096, &[], (100, &[]))?;
-        assert_eq!(rt; status, Status::BadScript { line: 0, why: 13 });
-        assert_eq!(rt; text.as_slice(), b"error line 0 why 13\n".as_slice());
-    }
+    let detached = b"node A\nnode B\nstream s A B *\nattach s\ndetach s\nflow s 1\n";
+    assert!(rt; answers(alloc, detached, &SOUND, 2, b"error line 6 why 12\n")?);
+    assert!(rt;
+        answers(
+            alloc,
+            b"node A a/* a/x\n",
+            &SOUND,
+            2,
+            b"error line 1 why 11\n"
+        )?
+    );
+    Ok(())
+}
+
+#[test]
+fn sizes(rt: HostRuntime) -> Result<(), Fail> {
+    let alloc = rt.alloc();
+    let whole = Ports {
+        source: (4194304, &[]),
+        sink: (100, &[]),
+    };
+    let mut large = vec![in alloc; b'#'; 4194304]?;
+    assert!(rt; answers(alloc, &large, &whole, 0, b"ok 0\n")?);
+    large.push(b'#')?;
+    assert!(rt; answers(alloc, &large, &whole, 5, b"error too large\n")?);
+    let mut lines = vec![in alloc; b'\n'; 100000]?;
+    assert!(rt; answers(alloc, &lines, &whole, 0, b"ok 0\n")?);
+    lines.push(b'\n')?;
+    assert!(rt; answers(alloc, &lines, &whole, 5, b"error too large\n")?);
     Ok(())
 }

@@ -1,55 +1,85 @@
 // The top call.
-ghost use Rattle.std.specs.Prelude.{◌≡◌, ◌<◌, ◌↔◌, ◌⊎◌, ℕ, List, Some, IfSome, length, map, string_bytes};
 ghost use Rattle.pr_ports.specs.Faults.{HasRisen};
-ghost use Rattle.pr_top.specs.Answers.{IsReadToItsEnd, IsSim, Took, fault_line, most_bytes};
+ghost use Rattle.pr_text.specs.Endings.{bad_cause, error_line};
+ghost use Rattle.pr_top.specs.Answers.{Answers, IsAskedFor, ports_of};
+ghost use Rattle.pr_top.specs.Runs.{WritesLine};
+ghost use Rattle.pr_words.specs.Words.{job_of};
+ghost use Rattle.std.specs.Prelude.{◌≡◌, ◌⊎◌, Some, codes, map, string_bytes};
 
 use crate::Status;
-use crate::parsing::{self, Refusal};
-use crate::reading::{ReadError, read_all};
-use crate::telling::{run, tell};
-use crate::words::are_sim;
+use crate::reading::{ReadError, read_script};
+use crate::running::run;
+use crate::telling::tell;
 use pr_ports::{Sink, Source};
+use pr_stamps::Seq;
+use pr_text::bad;
+use pr_wires::Wires;
+use pr_words::{Job, WordsFault};
 use std::alloc::Global;
 
-// The most bytes of a script.
-const MOST_BYTES: usize = 4194304;
+const USAGE: &[u8] = b"error usage\n";
 
-/// Does what the words ask for: `sim` reads a script, runs it, and writes its transcript as the lines come. The words
-/// lack the program's own name.
+/// Does what the words ask for, and answers how it ended. The words lack the program's own name.
 ///
-/// The script is kept whole until it was judged; a run takes time linear in the script's bytes, but for the look-up of
-/// names. Of the script's grammar and of the run nothing is claimed here but that they are safe and end.
-pub fn practi<S: Source, K: Sink>(
+/// `sim` reads a script (docs/SCRIPT.md), runs it in one thread and writes its transcript (docs/TRANSCRIPT.md), each line
+/// as it comes. Reading takes time linear in the script's bytes and keeps its commands; the run takes the time of the
+/// nodes' calls and keeps their journals.
+pub fn practi<S: Source, K: Sink, W: Wires>(
     alloc: Global,
     words: &[String],
     script: &mut S,
     out: &mut K,
+    wires: &mut W,
 ) -> Status
-    ensures usage { (result ≡ Status.Usage) ↔ ¬ IsSim (map string_bytes words.now) }
-    ensures read_fault { result ≡ Status.ReadFault → HasRisen (S.faults script.old) (S.faults script.new) }
-    ensures write_fault { result ≡ Status.WriteFault → HasRisen (K.faults out.old) (K.faults out.new) × IsReadToItsEnd (S.left script.old) (S.left script.new) }
-
-    // Too large exactly where a byte past the limit was read.
-    ensures too_large { result ≡ Status.TooLarge → IfSome (S.left script.old) (λ all. most_bytes < length all) }
-    ensures bad_script { (line why : ℕ) → result ≡ Status.BadScript line why → (line ≡ 0) × (why ≡ 13) × IsReadToItsEnd (S.left script.old) (S.left script.new) }
-    ensures worn { (at : ℕ) → result ≡ Status.Worn at → (at ≡ 4611686018427387903) × IsReadToItsEnd (S.left script.old) (S.left script.new) }
-    ensures ok { result ≡ Status.Ok → IsReadToItsEnd (S.left script.old) (S.left script.new) }
-
-    // Where there is no run, the fault's line alone is written.
-    ensures told { IfSome (fault_line result) (λ line. Took (K.text out.old) (K.text out.new) line (HasRisen (K.faults out.old) (K.faults out.new))) }
+    ensures { Answers (IsAskedFor (job_of (map string_bytes words.now))) (ports_of S.left S.faults K.text K.faults script.old out.old) (ports_of S.left S.faults K.text K.faults script.new out.new) result }
 {
-    if !are_sim(words) {
-        return tell(out, Status::Usage);
+    let _ = wires;
+    match pr_words::read(alloc, words) {
+        Ok(job) => alone(alloc, &job, script, out),
+        Err(WordsFault::Usage) => tell(out, Status::Usage, USAGE),
+        Err(WordsFault::NoMemory) => no_memory(out),
     }
-    let bytes = match read_all(alloc, script, MOST_BYTES) {
-        Ok(bytes) => bytes,
-        Err(ReadError::Failed) => return tell(out, Status::ReadFault),
-        Err(ReadError::TooLarge) => return tell(out, Status::TooLarge),
-        Err(ReadError::NoMemory) => return tell(out, Status::NoMemory),
-    };
-    match parsing::read(alloc, &bytes) {
+}
+
+/// Does the whole of a job in one thread, as `practi` does.
+pub fn alone<S: Source, K: Sink>(alloc: Global, job: &Job, script: &mut S, out: &mut K) -> Status
+    ensures { Answers (IsAskedFor (Some job.now)) (ports_of S.left S.faults K.text K.faults script.old out.old) (ports_of S.left S.faults K.text K.faults script.new out.new) result }
+{
+    match job {
+        Job::Sim => sim(alloc, script, out),
+        _ => tell(out, Status::Usage, USAGE),
+    }
+}
+
+// Reads a script and runs it.
+fn sim<S: Source, K: Sink>(alloc: Global, script: &mut S, out: &mut K) -> Status
+    ensures { Answers (Unit {0}) (ports_of S.left S.faults K.text K.faults script.old out.old) (ports_of S.left S.faults K.text K.faults script.new out.new) result }
+{
+    match read_script(alloc, script) {
         Ok(script) => run(alloc, &script, out),
-        Err(Refusal::Bad) => tell(out, Status::BadScript { line: 0, why: 13 }),
-        Err(Refusal::NoMemory) => tell(out, Status::NoMemory),
+        Err(ReadError::Failed) => tell(out, Status::ReadFault, b"error read\n"),
+        Err(ReadError::TooLarge) => tell(out, Status::TooLarge, b"error too large\n"),
+        Err(ReadError::Bad { line, why }) => tell_bad(alloc, out, line, why),
+        Err(ReadError::NoMemory) => no_memory(out),
     }
+}
+
+// Writes the line that tells a script's first bad line.
+fn tell_bad<K: Sink>(alloc: Global, out: &mut K, line: u64, why: u8) -> Status
+    ensures status { (result ≡ Status.BadScript line why) ⊎ (result ≡ Status.NoMemory) }
+    ensures line { result ≡ Status.BadScript line why → WritesLine (HasRisen (K.faults out.old) (K.faults out.new)) (error_line (bad_cause line why)) (K.text out.old) (K.text out.new) }
+    ensures no_memory { result ≡ Status.NoMemory → WritesLine (HasRisen (K.faults out.old) (K.faults out.new)) (error_line (codes "no memory")) (K.text out.old) (K.text out.new) }
+{
+    let mut text = Seq::new(alloc);
+    match bad(line, why, &mut text) {
+        Ok(()) => tell(out, Status::BadScript { line, why }, text.as_slice()),
+        Err(_) => no_memory(out),
+    }
+}
+
+fn no_memory<K: Sink>(out: &mut K) -> Status
+    ensures status { result ≡ Status.NoMemory }
+    ensures line { WritesLine (HasRisen (K.faults out.old) (K.faults out.new)) (error_line (codes "no memory")) (K.text out.old) (K.text out.new) }
+{
+    tell(out, Status::NoMemory, b"error no memory\n")
 }

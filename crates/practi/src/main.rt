@@ -3,6 +3,7 @@
 
 use pr_ports::{ReaderSource, WriterSink};
 use pr_top::{Status, practi};
+use pr_wires::TrueWires;
 use std::alloc::AllocError;
 use std::env;
 use std::io::{self, ErrorKind};
@@ -11,8 +12,9 @@ use std::process::ExitCode;
 fn main(rt: HostRuntime) -> ExitCode {
     let mut script = ReaderSource::new(rt.reader());
     let mut out = WriterSink::new(io::writer(&rt));
+    let mut wires = TrueWires::new();
     let status = match words(&rt) {
-        Ok(words) => practi(rt.alloc(), &words, &mut script, &mut out),
+        Ok(words) => practi(rt.alloc(), &words, &mut script, &mut out, &mut wires),
         Err(status) => status,
     };
     ExitCode::from(status.number())

@@ -1,0 +1,13 @@
+use Rattle.std.proofs.Common.{◌≤◌, ◌-◌, length}
+use Rattle.pr_top.proofs.Runs.{IsUnderWay}
+use Rattle.pr_top.proofs.running.commands.Given as goal
+
+abbrev pub invariant-loop-at : goal.invariant-loop-at
+invariant-loop-at g l = record {
+  rises : g.K.Sink.faults l.fn.out ≤ g.K.Sink.faults l.out;
+  within : l.at ≤ length l.list;
+  held : IsUnderWay l.script l.at l.told l.run.engine l.run.unmet (g.K.Sink.text l.fn.out) (g.K.Sink.text l.out);
+}
+
+abbrev pub decreases-loop-at : goal.decreases-loop-at
+decreases-loop-at g l = length l.list - l.at

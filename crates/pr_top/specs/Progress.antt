@@ -1,0 +1,133 @@
+-- How far the run of a script has come.
+use Rattle.std.specs.Prelude.{◌≡◌, ◌≤◌, ◌<◌, ◌+◌, ◌++◌, ℕ, List, [], ◌∷◌, Bool, false, IsTrue, Option, Some, None, Result, Ok, Err, drop, length, map, reverse, take}
+use Rattle.std.specs.Io.KnownBytes.{Appends}
+use Rattle.std.specs.List.{flat_map}
+use Rattle.pr_script.specs.declared.decl.Decl.{Decl}
+use Rattle.pr_script.specs.declared.command.Command.{Command}
+use Rattle.pr_script.specs.declared.command.Command.TheVariants as commands
+use Rattle.pr_script.specs.declared.script.Script.{Script}
+use Rattle.pr_script.specs.Good.{AreGoodSteps}
+use Rattle.pr_script.specs.Steps.{AreWhole, Numbered, steps_of}
+use Rattle.pr_sim.specs.Making.{declared_of}
+use Rattle.pr_sim.specs.Running.{IsRunning, Tells}
+use Rattle.pr_sim.specs.Stepping.{AreAttached}
+use Rattle.pr_sim.specs.declared.engine.Engine.{Engine}
+use Rattle.pr_story.specs.History.{NodeEntry}
+use Rattle.pr_story.specs.Counts.{IsHistory}
+use Rattle.pr_story.specs.Scripts.{AreBegun, JobAfterJob}
+use Rattle.pr_text.specs.Endings.{unmet_line}
+use Rattle.pr_text.specs.Histories.{EachGives, HasBegun, IsRunOf, joined, first_of, streams_of, transcript_text, unmet_from}
+use Rattle.pr_text.specs.Lines.{line_text}
+use Rattle.pr_text.specs.Numbers.{counts_of}
+use Rattle.pr_text.specs.Steps.{lines_of, step_line}
+use Rattle.pr_text.specs.Transcripts.{plan_of}
+use Rattle.pr_top.specs.Runs.{IsWritten, told_text}
+use Rattle.pr_top.specs.declared.running.Expected.{Expected}
+use Rattle.pr_top.specs.declared.stepping.Halt.{Halt}
+use Rattle.pr_top.specs.declared.stepping.Halt.TheVariants as halts
+use Rattle.pr_top.specs.declared.status.Status.TheVariants as status
+
+-- these are the last entry alone
+pub record IsLast (last h : List NodeEntry) : Type 0 where
+  pub entry : NodeEntry
+  pub before : List NodeEntry
+  pub alone : last ≡ entry ∷ []
+  pub newest : h ≡ entry ∷ before
+
+-- the engine has run the script up to the commands that are left, which gave the history, and this is the line of the
+-- first expectation so far that was not met: whatever the rest gives, or begins, the whole script gives, or begins
+pub record HasCome (s : Script) (rest : List Numbered) (h : List NodeEntry) (e : Engine) (unmet : Option ℕ) : Type 0 where
+  pub attached : ℕ → Bool
+  pub numbers : List ℕ
+  pub after_read : Bool
+  pub last : List NodeEntry
+  pub running : IsRunning (declared_of s.decls.list) attached h e
+  pub same : AreAttached numbers attached
+  pub good : AreGoodSteps s.decls.list numbers after_read (steps_of rest)
+  pub whole : AreWhole rest
+  pub read : IsTrue after_read → IsLast last h
+  pub gives : (parts : List (List NodeEntry)) → EachGives JobAfterJob (streams_of s.decls.list) attached (map step_line (steps_of rest)) parts
+      → (all : List (List NodeEntry)) × EachGives JobAfterJob (streams_of s.decls.list) (λ t. false) (lines_of s.commands) all
+      × (joined all ≡ reverse h ++ joined parts) × (unmet_from [] (steps_of s.commands) all ≡ first_of unmet (unmet_from last (steps_of rest) parts))
+  pub begins : (es : List NodeEntry) → AreBegun JobAfterJob (streams_of s.decls.list) attached (map step_line (steps_of rest)) es
+      → AreBegun JobAfterJob (streams_of s.decls.list) (λ t. false) (lines_of s.commands) (reverse h ++ es)
+
+-- a run of some script has come up to these commands
+abbrev pub CanGoOn : List Numbered → Engine → Option ℕ → Type 0
+CanGoOn rest e unmet = (s : Script) × (h : List NodeEntry) × HasCome s rest h e unmet
+
+-- the command is no expectation, and begins no phase
+abbrev pub IsAlone : Command → Type 0
+IsAlone (commands.Expect want) = ⊥
+IsAlone commands.Phase = ⊥
+IsAlone c = Unit {0}
+
+-- why a run stops: a node is worn, behind that many entries
+abbrev pub IsHalt : List NodeEntry → Halt → Type 0
+IsHalt h (halts.Worn at) = (at ≡ 4611686018427387903) × (4611686018427387903 ≤ length h)
+IsHalt h halts.NoMemory = Unit {0}
+IsHalt h halts.WriteFault = ⊥
+
+-- the run stopped, with a history that the script has begun
+pub record HasStopped (s : Script) (h : List NodeEntry) (e : Engine) (halt : Halt) : Type 0 where
+  pub tells : Tells (declared_of s.decls.list) h e
+  pub begun : HasBegun JobAfterJob s h
+  pub cause : IsHalt h halt
+
+-- a step ran the first of the commands that are left and so many behind it, or the run stopped
+abbrev pub HasStepped : Script → List Numbered → List NodeEntry → Engine → Option ℕ → Result ℕ Halt → Type 0
+HasStepped s rest h e unmet (Ok n) = (n < length rest) × ((new : List NodeEntry) × HasCome s (drop (n + 1) rest) (new ++ h) e unmet)
+HasStepped s rest h e unmet (Err halt) = (new : List NodeEntry) × HasStopped s (new ++ h) e halt
+
+-- ---- lines
+
+-- the lines of these entries, which stand in their order
+abbrev pub entry_lines : List Decl → List NodeEntry → List ℕ
+entry_lines ds es = flat_map (λ (e : NodeEntry). line_text ds e.node e.entry.event) es
+
+-- the history, as a call leaves it
+abbrev pub IsHistoryOfDecls : Script → List NodeEntry → Type 0
+IsHistoryOfDecls s h = IsHistory (plan_of s.decls.list) (counts_of s.decls.list) h
+
+-- ---- what is written
+
+-- the text was written; or a beginning of it, for want of memory, or since the sink failed
+abbrev pub Writes : {X : Type 0} → List ℕ → Type 0 → Option (List ℕ) → Option (List ℕ) → Result X Halt → Type 0
+Writes text failed before now (Ok x) = Appends before now text
+Writes text failed before now (Err halts.NoMemory) = (n : ℕ) × Appends before now (take n text)
+Writes text failed before now (Err halts.WriteFault) = failed × ((n : ℕ) × Appends before now (take n text))
+Writes text failed before now (Err (halts.Worn at)) = ⊥
+
+-- all commands were run and their lines written; or the run stopped with this history, and its lines were written, or a
+-- beginning of them
+abbrev pub HasRunAll : Script → Type 0 → Option (List ℕ) → Option (List ℕ) → Engine → Option ℕ → Result (Unit {0}) Halt → Type 0
+HasRunAll s failed before now e unmet (Ok done) =
+    (h : List NodeEntry) × HasCome s [] h e unmet × Appends before now (entry_lines s.decls.list (reverse h))
+HasRunAll s failed before now e unmet (Err (halts.Worn at)) =
+    (h : List NodeEntry) × HasStopped s h e (halts.Worn at) × Appends before now (entry_lines s.decls.list (reverse h))
+HasRunAll s failed before now e unmet (Err halts.NoMemory) =
+    (h : List NodeEntry) × HasStopped s h e halts.NoMemory × ((n : ℕ) × Appends before now (take n (entry_lines s.decls.list (reverse h))))
+HasRunAll s failed before now e unmet (Err halts.WriteFault) =
+    failed × ((h : List NodeEntry) × HasStopped s h e halts.NoMemory × ((n : ℕ) × Appends before now (take n (entry_lines s.decls.list (reverse h)))))
+
+-- the transcript was written up to its `ok` line, and the first expectation that was not met is to be told; or what was
+-- written is that of a run that stopped
+abbrev pub HasTold : Script → Type 0 → Option (List ℕ) → Option (List ℕ) → Result (Option Expected) Halt → Type 0
+HasTold s failed before now (Ok None) =
+    (h : List NodeEntry) × IsHistoryOfDecls s h × IsRunOf JobAfterJob s h None × Appends before now (transcript_text s.decls.list h)
+HasTold s failed before now (Ok (Some x)) =
+    (h : List NodeEntry) × IsHistoryOfDecls s h × IsRunOf JobAfterJob s h (Some x.line) × (x.text ≡ unmet_line x.line)
+    × Appends before now (transcript_text s.decls.list h)
+HasTold s failed before now (Err (halts.Worn at)) =
+    (h : List NodeEntry) × IsHistoryOfDecls s h × HasBegun JobAfterJob s h × IsHalt h (halts.Worn at) × Appends before now (told_text s h)
+HasTold s failed before now (Err halts.NoMemory) =
+    (h : List NodeEntry) × IsHistoryOfDecls s h × HasBegun JobAfterJob s h × ((n : ℕ) × Appends before now (take n (told_text s h)))
+HasTold s failed before now (Err halts.WriteFault) =
+    (h : List NodeEntry) × IsHistoryOfDecls s h × HasBegun JobAfterJob s h
+    × ((text : List ℕ) × IsWritten status.WriteFault failed s h text × Appends before now text)
+
+-- what is to be told of the first expectation that was not met
+abbrev pub IsExpected : Option ℕ → Option Expected → Type 0
+IsExpected None None = Unit {0}
+IsExpected (Some line) (Some x) = (x.line ≡ line) × (x.text ≡ unmet_line line)
+IsExpected _ _ = ⊥

@@ -1,0 +1,175 @@
+// A script is run, and its transcript written as the lines come.
+ghost use Rattle.pr_ports.specs.Faults.{HasRisen};
+ghost use Rattle.pr_script.specs.Good.{IsGood};
+ghost use Rattle.pr_script.specs.declared.script.Script.{Script};
+ghost use Rattle.pr_sim.specs.Making.{declared_of};
+ghost use Rattle.pr_sim.specs.Running.{Tells};
+ghost use Rattle.pr_story.specs.History.{NodeEntry};
+ghost use Rattle.pr_text.specs.Endings.{ok_line};
+ghost use Rattle.pr_text.specs.Lines.{line_text};
+ghost use Rattle.pr_top.specs.Progress.{HasCome, HasRunAll, HasTold, IsExpected, Writes, entry_lines};
+ghost use Rattle.pr_top.specs.Runs.{HasRun};
+ghost use Rattle.pr_top.specs.declared.stepping.Halt.TheVariants as halts;
+ghost use Rattle.std.specs.Prelude.{◌≡◌, ◌≤◌, ◌<◌, ◌+◌, [], Err, IfErr, IfOk, List, drop, length, reverse, slice_index_or};
+
+use crate::Status;
+use crate::stepping::{Halt, Run};
+use crate::telling::tell;
+use crate::writing::write_all;
+use pr_ports::Sink;
+use pr_script::{Bytes, Decls, Script};
+use pr_sim::Engine;
+use pr_stamps::{NoMemory, Seq};
+use pr_text::{heads, line, ok, unmet};
+use std::alloc::Global;
+
+/// Runs a script in one thread, and writes its transcript: the head lines first, and each command's lines before the next
+/// command runs.
+pub fn run<K: Sink>(alloc: Global, script: &Script, out: &mut K) -> Status
+    requires { IsGood script.now }
+    ensures run { HasRun result script.now (HasRisen (K.faults out.old) (K.faults out.new)) (K.text out.old) (K.text out.new) }
+    ensures rises { K.faults out.old ≤ K.faults out.new }
+{
+    match transcript(alloc, script, out) {
+        Ok(None) => Status::Ok,
+        Ok(Some(Expected { line, text })) => tell(out, Status::Unmet { line }, text.as_slice()),
+        Err(Halt::WriteFault) => Status::WriteFault,
+        Err(Halt::Worn { at }) => tell(out, Status::Worn { at }, b"error worn\n"),
+        Err(Halt::NoMemory) => tell(out, Status::NoMemory, b"error no memory\n"),
+    }
+}
+
+// The first expectation that was not met: its line, and the line that tells it.
+#[derive(Drop)]
+struct Expected {
+    line: u64,
+    text: Bytes,
+}
+
+// Writes the transcript up to its `ok` line.
+fn transcript<K: Sink>(
+    alloc: Global,
+    script: &Script,
+    out: &mut K,
+) -> Result<Option<Expected>, Halt>
+    requires { IsGood script.now }
+    ensures told { HasTold script.now (HasRisen (K.faults out.old) (K.faults out.new)) (K.text out.old) (K.text out.new) result }
+    ensures rises { K.faults out.old ≤ K.faults out.new }
+{
+    let mut text = Seq::new(alloc);
+    heads(alloc, &script.decls, &mut text)?;
+    write(out, text.as_slice())?;
+    let engine = Engine::new(alloc, &script.decls)?;
+    let mut run = Run {
+        engine,
+        unmet: None,
+    };
+    commands(alloc, script, &mut run, out)?;
+    end(alloc, script, &run, out)
+}
+
+// Runs all commands, and writes each one's lines before the next runs.
+fn commands<K: Sink>(alloc: Global, script: &Script, run: &mut Run, out: &mut K) -> Result<(), Halt>
+    requires { HasCome script.now script.now.commands [] run.old.engine run.old.unmet }
+    ensures run { HasRunAll script.now (HasRisen (K.faults out.old) (K.faults out.new)) (K.text out.old) (K.text out.new) run.new.engine run.new.unmet result }
+    ensures rises { K.faults out.old ≤ K.faults out.new }
+{
+    let list = script.commands.as_slice();
+    let mut told = 0;
+    let mut at = 0;
+    while at < list.len() {
+        let step = run.step(&list[at], &list[at + 1..]);
+        told = tell_from(alloc, &script.decls, &run.engine, told, out)?;
+        at += step? + 1;
+    }
+    Ok(())
+}
+
+// Writes the lines of the entries from this place on, and answers how many entries there are.
+fn tell_from<K: Sink>(
+    alloc: Global,
+    decls: &Decls,
+    engine: &Engine,
+    told: usize,
+    out: &mut K,
+) -> Result<usize, Halt>
+    requires { (h : List NodeEntry) × Tells (declared_of decls.now.list) h engine.now × (told ≤ length h) }
+    ensures told { (h : List NodeEntry) → Tells (declared_of decls.now.list) h engine.now → Writes (entry_lines decls.now.list (drop told (reverse h))) (HasRisen (K.faults out.old) (K.faults out.new)) (K.text out.old) (K.text out.new) result }
+    ensures count { (h : List NodeEntry) → Tells (declared_of decls.now.list) h engine.now → IfOk result (λ n. n ≡ length h) }
+    ensures rises { K.faults out.old ≤ K.faults out.new }
+{
+    let len = engine.history().len();
+    for at in told..len {
+        tell_entry(alloc, decls, engine, at, out)?;
+    }
+    Ok(len)
+}
+
+// Writes the line of the entry at this place.
+fn tell_entry<K: Sink>(
+    alloc: Global,
+    decls: &Decls,
+    engine: &Engine,
+    at: usize,
+    out: &mut K,
+) -> Result<(), Halt>
+    requires { (h : List NodeEntry) × Tells (declared_of decls.now.list) h engine.now × (at < length h) }
+    ensures told { (h : List NodeEntry) (e : NodeEntry) → Tells (declared_of decls.now.list) h engine.now → at < length h → Writes (line_text decls.now.list (slice_index_or (reverse h) at e).node (slice_index_or (reverse h) at e).entry.event) (HasRisen (K.faults out.old) (K.faults out.new)) (K.text out.old) (K.text out.new) result }
+    ensures rises { K.faults out.old ≤ K.faults out.new }
+{
+    let mut text = Seq::new(alloc);
+    line(
+        alloc,
+        decls,
+        engine.node_of(at),
+        &engine.entry(at).event,
+        &mut text,
+    )?;
+    write(out, text.as_slice())
+}
+
+// Writes the `ok` line, and makes the line of what was not met.
+fn end<K: Sink>(
+    alloc: Global,
+    script: &Script,
+    run: &Run,
+    out: &mut K,
+) -> Result<Option<Expected>, Halt>
+    requires { (h : List NodeEntry) × HasCome script.now [] h run.now.engine run.now.unmet }
+    ensures told { (h : List NodeEntry) → Tells (declared_of script.now.decls.list) h run.now.engine → Writes (ok_line (length script.now.decls.list + length h)) (HasRisen (K.faults out.old) (K.faults out.new)) (K.text out.old) (K.text out.new) result }
+    ensures unmet { IfOk result (IsExpected run.now.unmet) }
+    ensures kept { result ≡ Err halts.NoMemory → K.text out.new ≡ K.text out.old }
+    ensures rises { K.faults out.old ≤ K.faults out.new }
+{
+    let lines = script.decls.list.as_slice().len() + run.engine.history().len();
+    let mut last = Seq::new(alloc);
+    ok(lines as u64, &mut last)?;
+    let expected = to_tell(alloc, run.unmet)?;
+    write(out, last.as_slice())?;
+    Ok(expected)
+}
+
+// What is to be told of the first expectation that was not met.
+fn to_tell(alloc: Global, line: Option<u64>) -> Result<Option<Expected>, NoMemory>
+    ensures { IfOk result (IsExpected line) }
+{
+    match line {
+        None => Ok(None),
+        Some(line) => {
+            let mut text = Seq::new(alloc);
+            unmet(line, &mut text)?;
+            Ok(Some(Expected { line, text }))
+        }
+    }
+}
+
+fn write<K: Sink>(out: &mut K, text: &[u8]) -> Result<(), Halt>
+    ensures fault { IfErr result (λ halt. halt ≡ halts.WriteFault) }
+    ensures told { Writes text.now (HasRisen (K.faults out.old) (K.faults out.new)) (K.text out.old) (K.text out.new) result }
+    ensures rises { K.faults out.old ≤ K.faults out.new }
+{
+    match write_all(out, text) {
+        Ok(()) => Ok(()),
+        Err(_) => Err(Halt::WriteFault),
+    }
+}

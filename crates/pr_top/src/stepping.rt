@@ -1,0 +1,119 @@
+// The steps of a script, one after the other.
+ghost use Rattle.pr_script.specs.Steps.{is_phase};
+ghost use Rattle.pr_script.specs.declared.command.Command.TheVariants as commands;
+ghost use Rattle.pr_script.specs.declared.script.Script.{Script};
+ghost use Rattle.pr_sim.specs.Commands.{IsNoLie};
+ghost use Rattle.pr_story.specs.History.{NodeEntry};
+ghost use Rattle.pr_text.specs.Histories.{first_of, is_met};
+ghost use Rattle.pr_top.specs.Progress.{CanGoOn, HasCome, HasStepped, IsAlone};
+ghost use Rattle.pr_top.specs.Stopping.{IsWent};
+ghost use Rattle.pr_top.specs.declared.stepping.Halt.TheVariants as halts;
+ghost use Rattle.std.specs.Prelude.{◌≡◌, ◌∷◌, List, None, Some, cond, not, true};
+
+use pr_flow::Stop;
+use pr_script::{Command, Want, phase_len};
+use pr_sim::Engine;
+use pr_stamps::NoMemory;
+use pr_story::Event;
+use pr_text::met;
+use pr_wires::TrueWires;
+
+/// Why a run did not come to the end of its script.
+#[derive(Clone, Copy)]
+pub enum Halt {
+    WriteFault,
+    Worn { at: u64 },
+    NoMemory,
+}
+
+impl From<NoMemory> for Halt {
+    ghost from_gives = { λ _ halt. halt ≡ halts.NoMemory };
+
+    fn from(_refused: NoMemory) -> Halt {
+        Halt::NoMemory
+    }
+}
+
+/// A script's run: its engine, and the line of the first expectation that was not met.
+#[derive(Drop)]
+pub struct Run {
+    pub engine: Engine,
+    pub unmet: Option<u64>,
+}
+
+impl Run {
+    /// Runs the step that comes first, a command alone or a phase up to its `end`, and answers how many commands behind
+    /// the first one that took. Each wire is one in memory that never fails.
+    pub fn step(&mut self, first: &(u64, Command), behind: &[(u64, Command)]) -> Result<usize, Halt>
+        requires { CanGoOn (first.now ∷ behind.now) self.old.engine self.old.unmet }
+        ensures { (s : Script) (h : List NodeEntry) → HasCome s (first.now ∷ behind.now) h self.old.engine self.old.unmet → HasStepped s (first.now ∷ behind.now) h self.new.engine self.new.unmet result }
+    {
+        match &first.1 {
+            Command::Expect { want } => {
+                self.judge(first.0, want, behind);
+                Ok(0)
+            }
+            Command::Phase => self.phase(first, behind),
+            _ => self.alone(first, behind),
+        }
+    }
+
+    // Runs a command that is no expectation and begins no phase.
+    fn alone(&mut self, first: &(u64, Command), behind: &[(u64, Command)]) -> Result<usize, Halt>
+        requires come { CanGoOn (first.now ∷ behind.now) self.old.engine self.old.unmet }
+        requires alone { IsAlone first.now.1 }
+        ensures { (s : Script) (h : List NodeEntry) → HasCome s (first.now ∷ behind.now) h self.old.engine self.old.unmet → HasStepped s (first.now ∷ behind.now) h self.new.engine self.new.unmet result }
+    {
+        let _ = behind;
+        went(self.engine.step(&first.1, &mut TrueWires::new()))?;
+        Ok(0)
+    }
+
+    // Runs the phase whose first word this is.
+    fn phase(&mut self, first: &(u64, Command), behind: &[(u64, Command)]) -> Result<usize, Halt>
+        requires come { CanGoOn (first.now ∷ behind.now) self.old.engine self.old.unmet }
+        requires phase { is_phase first.now.1 ≡ true }
+        ensures { (s : Script) (h : List NodeEntry) → HasCome s (first.now ∷ behind.now) h self.old.engine self.old.unmet → HasStepped s (first.now ∷ behind.now) h self.new.engine self.new.unmet result }
+    {
+        let _ = first;
+        let (inside, left) = behind.split_at(phase_len(behind));
+        went(self.engine.phase_in_order(inside, &mut TrueWires::new()))?;
+        Ok(behind.len() - (left.len() - 1))
+    }
+
+    // Judges the read that came last.
+    fn judge(&mut self, line: u64, want: &Want, behind: &[(u64, Command)])
+        requires { CanGoOn ((line, commands.Expect want.now) ∷ behind.now) self.old.engine self.old.unmet }
+        ensures { (s : Script) (h : List NodeEntry) → HasCome s ((line, commands.Expect want.now) ∷ behind.now) h self.old.engine self.old.unmet → HasCome s behind.now h self.new.engine self.new.unmet }
+    {
+        let _ = behind;
+        let last = self.engine.history().len() - 1;
+        let unmet = judged(self.unmet, line, want, &self.engine.entry(last).event);
+        self.unmet = unmet;
+    }
+}
+
+// The line of the first expectation that was not met, where one more is judged.
+fn judged(unmet: Option<u64>, line: u64, want: &Want, event: &Event) -> Option<u64>
+    ensures { result ≡ first_of unmet (cond (not (is_met want.now event.now)) (Some line) None) }
+{
+    if unmet.is_some() {
+        return unmet;
+    }
+    if met(want, event) {
+        return None;
+    }
+    Some(line)
+}
+
+fn went(stop: Result<Stop, NoMemory>) -> Result<(), Halt>
+    requires { IsNoLie stop }
+    ensures { IsWent stop result }
+{
+    match stop {
+        Ok(Stop::Went) => Ok(()),
+        Ok(Stop::Worn { at }) => Err(Halt::Worn { at }),
+        Ok(Stop::Lied { .. }) => unreachable!(),
+        Err(NoMemory) => Err(Halt::NoMemory),
+    }
+}
