@@ -71,3 +71,16 @@ pub record Answers (accepted : Type 0) (a b : Ports) (result : Status) : Type 0 
   pub run : IsOfRun result → RunsScript a b result
   pub no_memory : result ≡ status.NoMemory
       → RunsScript a b result ⊎ WritesLine (HasRisen a.write_faults b.write_faults) (error_line (codes "no memory")) a.text b.text
+
+-- the exit status of a process
+abbrev pub number_of : Status → ℕ
+number_of status.Ok = 0
+number_of status.Usage = 1
+number_of (status.BadScript line why) = 2
+number_of status.ReadFault = 3
+number_of status.WriteFault = 4
+number_of status.TooLarge = 5
+number_of (status.Lied stream number sent got) = 6
+number_of status.NoMemory = 7
+number_of (status.Unmet line) = 8
+number_of (status.Worn at) = 9

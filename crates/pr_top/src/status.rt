@@ -1,4 +1,6 @@
 // How a call of the program ended.
+ghost use Rattle.pr_top.specs.Answers.{number_of};
+ghost use Rattle.std.specs.Prelude.{◌≡◌};
 
 use pr_script::Bytes;
 
@@ -41,7 +43,9 @@ pub enum Status {
 
 impl Status {
     /// The exit status of a process.
-    pub fn number(&self) -> u8 {
+    pub fn number(&self) -> u8
+        ensures { result ≡ number_of self.now }
+    {
         match self {
             Status::Ok => 0,
             Status::Usage => 1,
