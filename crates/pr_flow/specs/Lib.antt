@@ -3,3 +3,4 @@ pub mod Moving
 pub mod Flows
 pub mod Taking
 pub mod Ending
+pub mod Lies

@@ -1,3 +1,4 @@
 pub mod Merged
 pub mod Heads
 pub mod Phases
+pub mod Holding

@@ -32,7 +32,7 @@ use pr_marks::Marks;
 use pr_names::Name;
 use pr_sets::NameSet;
 use pr_stamps::{MAX, NoMemory, Seq};
-use pr_story::{Cause, Event, Found, Journal};
+use pr_story::{Cause, Event, Found, Journal, Journaled};
 use pr_vectors::Vector;
 use std::alloc::Global;
 use std::marker::Model;
@@ -58,6 +58,14 @@ impl Model for Node {
     ghost view = { λ n. record { id = n.id; journal = n.diary.entries; stores = n.stores; spent = n.diary.spent } };
 
     ghost invariant = { λ n. (n.id < 32) × (n.diary.spent ≡ false → IsTied n.id (reverse n.diary.entries.items) n.stores) };
+}
+
+impl Journaled for Node {
+    ghost number = { λ n. n.id };
+
+    ghost sets = { λ n. (means n).sets };
+
+    ghost journal = { λ n. (means n).journal };
 }
 
 impl Node {

@@ -21,7 +21,8 @@ use Rattle.pr_story.proofs.Making.{join_clock}
 use Rattle.pr_story.proofs.InTime.{stays_in_time}
 use Rattle.pr_story.proofs.Remaining.{less_is_left}
 use Rattle.pr_sim.specs.Commands.{IsCause}
-use Rattle.pr_sim.specs.Running.{Declared, HasAttached, IsRunning, Tells, below}
+use Rattle.pr_sim.specs.Running.{HasAttached, IsRunning, Tells, below}
+use Rattle.pr_story.specs.Counts.{Declared}
 use Rattle.pr_sim.proofs.Attaching.{session_at}
 use Rattle.pr_sim.proofs.Settles.{goes_both}
 use Rattle.pr_sim.specs.Settles.{SettlesOn, IsAdvance, IsAcceptOf, LeadsToRest, MakesPart}

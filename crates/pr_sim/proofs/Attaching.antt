@@ -11,7 +11,8 @@ use Rattle.pr_story.specs.Commands.{Gives, ToAttach}
 use Rattle.pr_story.specs.History.{NodeEntry}
 use Rattle.pr_story.specs.Scripts.{AreAttaches, Single, attached_after, events_of}
 use Rattle.pr_sim.specs.Commands.{GivesOne, IsCause}
-use Rattle.pr_sim.specs.Running.{Declared, IsRunning, Tells}
+use Rattle.pr_sim.specs.Running.{IsRunning, Tells}
+use Rattle.pr_story.specs.Counts.{Declared}
 use Rattle.pr_sim.specs.Settles.{AttachesAnew, just}
 use Rattle.pr_sim.proofs.Settles.{events_both}
 use Rattle.pr_sim.specs.declared.engine.Engine.{Engine}

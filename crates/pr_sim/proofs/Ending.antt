@@ -13,7 +13,9 @@ use Rattle.pr_story.specs.Commands.{Command, Gives, ToMove, ToTellState}
 use Rattle.pr_story.specs.History.{Plan, NodeEntry, journal}
 use Rattle.pr_story.specs.Lawful.{HasCause, IsOwnLawful, IsPlaced}
 use Rattle.pr_story.specs.Turns.{is_of_stream, standing}
-use Rattle.pr_sim.specs.Running.{AreClients, AreRoutes, AreSent, AreSessions, Declared, IsRunning, Stands}
+use Rattle.pr_merge.specs.Holding.{AreSessions}
+use Rattle.pr_sim.specs.Running.{AreClients, AreRoutes, AreSent, IsRunning, Stands}
+use Rattle.pr_story.specs.Counts.{Declared}
 use Rattle.pr_sim.specs.Commands.{GivesIt, MakesOne}
 use Rattle.pr_sim.proofs.Quiet.{IsOfNoClient, IsOfNoStream, clients_stay, index_stays, no_session, nothing_sent, sessions_stay}
 use Rattle.pr_sim.proofs.OfClients.{IsOfClient, client_moved, client_saw, not_equal}

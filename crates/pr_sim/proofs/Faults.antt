@@ -16,7 +16,8 @@ use Rattle.pr_story.specs.History.{Plan, NodeEntry, current_clock, journal}
 use Rattle.pr_story.specs.Lawful.{Valid, last_time}
 use Rattle.pr_story.specs.Laws.{write_count, writes_after}
 use Rattle.pr_story.proofs.Short.{valid_short}
-use Rattle.pr_sim.specs.Running.{Declared, HasJournals, IsRunning, Tells, Stands, Told}
+use Rattle.pr_sim.specs.Running.{HasJournals, IsRunning, Tells, Stands, Told}
+use Rattle.pr_story.specs.Counts.{Declared}
 use Rattle.pr_sim.specs.Commands.{IsCause, MakesOne}
 use Rattle.pr_sim.proofs.Step.{here, is_node_of, length_put, put, some_is, there, within_of}
 use Rattle.pr_sim.specs.declared.engine.Engine.{Engine}

@@ -1,7 +1,8 @@
 -- A flow, turn by turn.
-use Rattle.std.proofs.Common.{◌≡◌, ◌≢◌, ℕ, ◌+◌, ◌-◌, ◌<◌, List, [], ◌∷◌, ◌++◌, Result, Ok, Err, IsErrAnd, inl, inr, refl, sym, ◌∙◌, ap, subst, cond, length, get_or, reverse, arith}
+use Rattle.std.proofs.Common.{◌≡◌, ◌≢◌, ℕ, ◌+◌, ◌-◌, ◌<◌, ◌≤◌, List, [], ◌∷◌, ◌++◌, Result, Ok, Err, IsErrAnd, inl, inr, refl, sym, ◌∙◌, ap, subst, cond, length, get_or, reverse, take, arith}
 use Rattle.std.specs.Prelude.{true, Bool, IsTrue, Some, None, Option}
-use Rattle.std.proofs.lemmas.List.{append_assoc, reverse-append}
+use Rattle.std.proofs.lemmas.List.{append_assoc, reverse-append, take-take}
+use Rattle.std.specs.Io.{StartsWith}
 use Rattle.std.proofs.lemmas.Result.{err_from_is_err_and}
 use Rattle.std.proofs.lemmas.Bool.Decides.{Decides-eqb}
 use Rattle.pr_inval.specs.declared.msg.Msg.{Msg}
@@ -14,7 +15,7 @@ use Rattle.pr_inval.specs.Standing.{Remembered}
 use Rattle.pr_inval.specs.Standing as session
 use Rattle.pr_flow.specs.declared.flow_end.FlowEnd.{FlowEnd}
 use Rattle.pr_flow.specs.declared.flow_end.FlowEnd.TheVariants as ends
-use Rattle.pr_flow.specs.Moving.{IsCut}
+use Rattle.pr_flow.specs.Moving.{IsCut, MovesOther}
 use Rattle.pr_node.specs.Calls.{Adds, IsDownFor, IsTaken}
 use Rattle.pr_node.specs.Stored.{Stored, means}
 use Rattle.pr_story.specs.declared.cause.Cause.{Cause}
@@ -34,7 +35,9 @@ use Rattle.pr_inval.specs.Messages.{IsMessage}
 use Rattle.pr_wires.specs.Calls.{WireState}
 use Rattle.pr_sim.specs.Commands.{Grows, IsCause, IsTurnMade, MakesOne}
 use Rattle.pr_sim.specs.Flowing.{CanGoDown, IsBegun, IsDownMade, IsOnTheWay, LeadsTo, TurnsEnd}
-use Rattle.pr_sim.specs.Running.{Declared, HasAttached, IsRunning, IsSession, Tells}
+use Rattle.pr_merge.specs.Holding.{IsSession}
+use Rattle.pr_sim.specs.Running.{HasAttached, IsRunning, Tells}
+use Rattle.pr_story.specs.Counts.{Declared}
 use Rattle.pr_sim.specs.declared.engine.Engine.{Engine}
 use Rattle.pr_sim.proofs.OfClients.{not_equal}
 use Rattle.pr_sim.proofs.OfStreams.{IsOfStream, session_of, stream_ends}
@@ -197,9 +200,17 @@ sent_more s left m made events (event, (of, kind, good)) are =
 
 pub sent_ends : (s left : ℕ) (m : Msg) (made : NodeEntry) (end : FlowEnd) (events : List Event) → IsTurnMade s (steps.Sent m) made → TurnsEnd s (Some m) left left end events → TurnsEnd s None (left + 1) left end (made.entry.event ∷ events)
 sent_ends s left m made ends.Done events turned leads = λ rest next. sent_more s left m made (events ++ rest) turned (leads rest next)
-sent_ends s left m made (ends.Lied number sent got) events turned (rest, are) = (rest, sent_more s left m made (events ++ rest) turned are)
+sent_ends s left m made (ends.Lied number sent got) events turned ((rest, are), (msg, of, lie, (before, is))) =
+    ((rest, sent_more s left m made (events ++ rest) turned are), (msg, of, lie, (before, ap (λ (v : Event). v ∷ events) turned.0 ∙ is)))
 sent_ends s left m made ends.Stale events turned are = sent_more s left m made events turned are
 sent_ends s left m made (ends.Down cause) events turned are = sent_more s left m made events turned are
+
+-- other bytes than were put are no beginning of the message's either
+pub is_no_beginning : (a b : WireState) (sent got : List ℕ) → a.under ≡ 0 → MovesOther a b sent got → ¬ StartsWith sent got
+is_no_beginning a b sent got none (put, moves, front, other) starts =
+    let m = moves.under in
+    let fits : length got ≤ length put = omega arith in
+    other (ap (λ (xs : List ℕ). take (length got) xs) (sym front) ∙ take-take (length got) (length put) sent fits ∙ starts)
 
 pub sent_begins : (s left : ℕ) (m : Msg) (made : NodeEntry) (events : List Event) → IsTurnMade s (steps.Sent m) made → IsBegun s (Some m) left events → IsBegun s None (left + 1) (made.entry.event ∷ events)
 sent_begins s left m made events turned (rest, are) = (rest, sent_more s left m made (events ++ rest) turned are)

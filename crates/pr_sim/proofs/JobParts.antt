@@ -24,8 +24,10 @@ use Rattle.pr_story.proofs.InOrder.{pairs_none}
 use Rattle.pr_story.proofs.JobAfterJob.{AreOfJobs}
 use Rattle.pr_sim.specs.Commands.{IsCause, IsNoLie, StepEnds, attached_of}
 use Rattle.pr_sim.specs.Flowing.{FlowEndsSo}
+use Rattle.pr_flow.specs.Lies.{IsLied}
 use Rattle.pr_sim.specs.Phasing.{CanDo, GivesAll, IsJobLine, JobEnds}
-use Rattle.pr_sim.specs.Running.{Declared, IsRunning, Tells}
+use Rattle.pr_sim.specs.Running.{IsRunning, Tells}
+use Rattle.pr_story.specs.Counts.{Declared}
 use Rattle.pr_sim.specs.Stepping.{CanRun, IsStopOf, StepsByWires, went_of}
 use Rattle.pr_sim.proofs.Faults.{stopped_same}
 use Rattle.pr_sim.proofs.Flows.{stays_attached}
@@ -213,9 +215,9 @@ module _ (d : Declared) (attached : ℕ → Bool) (h : List NodeEntry) (e : Engi
   ends_there rest all (Ok (stops.Worn at)) is other (new, tells, has, cause) =
       subst (λ (js : List Job). StepEnds (Phase js) d attached h e (Ok (stops.Worn at))) (sym is)
       (new ++ first, subst (λ (g : List NodeEntry). Tells d g e) (sym (append_assoc new first h)) tells, begun rest new has, subst (λ (g : List NodeEntry). IsCause g (faults.Worn at)) (sym (append_assoc new first h)) cause)
-  ends_there rest all (Ok (stops.Lied stream number sent got)) is other (new, tells, has) =
+  ends_there rest all (Ok (stops.Lied stream number sent got)) is other (new, tells, has, lied) =
       subst (λ (js : List Job). StepEnds (Phase js) d attached h e (Ok (stops.Lied stream number sent got))) (sym is)
-      (new ++ first, subst (λ (g : List NodeEntry). Tells d g e) (sym (append_assoc new first h)) tells, begun rest new has)
+      (new ++ first, subst (λ (g : List NodeEntry). Tells d g e) (sym (append_assoc new first h)) tells, begun rest new has, subst (λ (g : List NodeEntry). IsLied g stream number sent got) (sym (append_assoc new first h)) lied)
   ends_there rest all (Err refused) is other (new, tells, has, cause) =
       subst (λ (js : List Job). StepEnds (Phase js) d attached h e (Err refused)) (sym is)
       (new ++ first, subst (λ (g : List NodeEntry). Tells d g e) (sym (append_assoc new first h)) tells, begun rest new has, tt)

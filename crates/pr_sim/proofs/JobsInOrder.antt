@@ -18,7 +18,8 @@ use Rattle.pr_story.proofs.Begun.{nothing_begins}
 use Rattle.pr_text.specs.Steps.{is_owned_by, line_of, lines_by, single_of}
 use Rattle.pr_sim.specs.Commands.{Ends}
 use Rattle.pr_sim.specs.Phasing.{GivesAll, IsJobLine, asked_by, asked_of, turns_by}
-use Rattle.pr_sim.specs.Running.{Declared, IsRunning}
+use Rattle.pr_sim.specs.Running.{IsRunning}
+use Rattle.pr_story.specs.Counts.{Declared}
 use Rattle.pr_sim.specs.Stepping.{CanRun, CanSend}
 use Rattle.pr_sim.proofs.Flows.{stays_attached}
 use Rattle.pr_sim.specs.declared.engine.Engine.{Engine}

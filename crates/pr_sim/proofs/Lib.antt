@@ -23,3 +23,5 @@ pub mod Settled
 pub mod StillKept
 pub mod Flows
 pub mod Turns
+pub mod Appending
+pub mod Represented

@@ -18,7 +18,8 @@ use Rattle.pr_script.specs.Labels.{count_of, is_kind, label_of, labels_of}
 use Rattle.pr_text.specs.Transcripts.{home_of, no_decl, stream_of}
 use Rattle.pr_vectors.specs.Vector.{zero_vector}
 use Rattle.pr_sim.specs.Making.{Each, HasRoom, IsMadeOf, IsNew, IsNewNode, declared_of}
-use Rattle.pr_sim.specs.Running.{IsNode, IsRunning, IsSession}
+use Rattle.pr_merge.specs.Holding.{IsSession}
+use Rattle.pr_sim.specs.Running.{IsNode, IsRunning}
 use Rattle.pr_sim.proofs.JobsInOrder.{all_at}
 use Rattle.pr_sim.proofs.Step.{some_is}
 use Rattle.pr_sim.specs.declared.engine.Engine.{Engine}

@@ -26,7 +26,9 @@ use Rattle.pr_story.specs.Turns.{Attaches, IsAttached, count_after, position_aft
 use Rattle.pr_story.proofs.Short.{valid_short}
 use Rattle.pr_inval.specs.Messages.{IsMessage}
 use Rattle.pr_sim.specs.Commands.{GivesIt, IsCheckpointOf, IsStepOf, MakesOne}
-use Rattle.pr_sim.specs.Running.{AreClients, AreNodes, AreRoutes, AreSent, AreSessions, Declared, IsRunning, IsSession, Stands}
+use Rattle.pr_merge.specs.Holding.{AreSessions, IsSession}
+use Rattle.pr_sim.specs.Running.{AreClients, AreNodes, AreRoutes, AreSent, IsRunning, Stands}
+use Rattle.pr_story.specs.Counts.{Declared}
 use Rattle.pr_story.specs.Places as story
 use Rattle.pr_sim.specs.Places.{HasNoted, OfStream}
 use Rattle.pr_story.specs.Places.{sent_places}
@@ -181,6 +183,7 @@ pub noted_of : (s : ℕ) (msg : Msg) (place : ℕ) (before now : List (Kept ℕ)
 noted_of s msg place before now same noted = record {
   many = noted.many;
   here = λ d. noted.here d ∙ sym (ap (λ (b : Bool). cond b ((get_or before s d).items ++ place ∷ []) (get_or before s d).items) ((Decides-eqb msg.stream s).1 same));
+  room = noted.room;
   there = noted.there;
 }
 

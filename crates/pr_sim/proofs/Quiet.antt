@@ -16,7 +16,8 @@ use Rattle.pr_story.specs.Turns.{is_of_stream, is_with_session, is_timed, is_bod
 use Rattle.pr_inval.specs.Messages.{IsMessage}
 use Rattle.pr_story.specs.Places as story
 use Rattle.pr_story.specs.Places.{sent_places}
-use Rattle.pr_sim.specs.Running.{AreClients, AreSent, AreSessions, IsSession}
+use Rattle.pr_merge.specs.Holding.{AreSessions, IsSession}
+use Rattle.pr_sim.specs.Running.{AreClients, AreSent}
 
 -- ---- streams
 

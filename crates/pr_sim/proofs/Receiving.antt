@@ -23,7 +23,9 @@ use Rattle.pr_story.specs.Lawful.{HasCause, IsPlaced}
 use Rattle.pr_story.specs.Turns.{count_after, position_after, sent_after, is_of_stream, is_timed, is_with_session, standing, position, sent_count, has_sent, stream_time}
 use Rattle.pr_inval.specs.Messages.{IsMessage}
 use Rattle.pr_sim.specs.Commands.{GivesIt, IsTakingMade, MakesOne}
-use Rattle.pr_sim.specs.Running.{AreClients, AreRoutes, AreSent, AreSessions, Declared, IsRunning, IsSession, Stands}
+use Rattle.pr_merge.specs.Holding.{AreSessions, IsSession}
+use Rattle.pr_sim.specs.Running.{AreClients, AreRoutes, AreSent, IsRunning, Stands}
+use Rattle.pr_story.specs.Counts.{Declared}
 use Rattle.pr_sim.specs.Messages.{IsPlace, IsSentAt}
 use Rattle.pr_story.specs.Places.{IsSending, SendsAt}
 use Rattle.pr_story.specs.Places as story

@@ -7,7 +7,8 @@ use Rattle.pr_story.specs.declared.event.Event.{Event}
 use Rattle.pr_story.specs.declared.event.Event.TheVariants.{Idle}
 use Rattle.pr_story.specs.History.{NodeEntry}
 use Rattle.pr_story.specs.Scripts.{AreRound, AreRounds, AreSettled, HasSent, events_of}
-use Rattle.pr_sim.specs.Running.{Declared, IsRunning}
+use Rattle.pr_sim.specs.Running.{IsRunning}
+use Rattle.pr_story.specs.Counts.{Declared}
 use Rattle.pr_sim.specs.Settles.{SettlesOn, IsAdvance, LeadsToRest, MakesPart, just}
 use Rattle.pr_sim.proofs.Attaching.{just_none, just_one}
 use Rattle.pr_sim.proofs.Settles.{goes_nowhere, sends_or_not, then_more, then_start}

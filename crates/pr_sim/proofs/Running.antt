@@ -6,10 +6,10 @@ use Rattle.pr_inval.specs.Standing.{Remembered}
 use Rattle.pr_story.specs.declared.event.Event.{Event}
 use Rattle.pr_story.specs.declared.event.Event.TheVariants.{Wrote, Attached, Sent, Idle, Stale, Accepted, Gapped, Missing, Down, Answered, Behind, Moved, Cut, Dropped, Conflicts, State}
 use Rattle.pr_story.specs.Clients.{is_of_client}
-use Rattle.pr_story.specs.Counts.{Counts, IsDeclared}
+use Rattle.pr_story.specs.Counts.{Counts, Declared, IsDeclared}
 use Rattle.pr_story.specs.History.{NodeEntry}
 use Rattle.pr_story.specs.Turns.{is_of_stream}
-use Rattle.pr_sim.specs.Running.{Declared, IsRunning, Stands}
+use Rattle.pr_sim.specs.Running.{IsRunning, Stands}
 use Rattle.pr_sim.proofs.OfClients.{same_is}
 use Rattle.pr_sim.proofs.Step.{here, put, some_is, there}
 use Rattle.pr_sim.specs.declared.engine.Engine.{Engine}

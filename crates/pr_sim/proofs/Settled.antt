@@ -13,7 +13,8 @@ use Rattle.pr_story.specs.Turns.{position}
 use Rattle.pr_story.proofs.Basics.{clock_at, vector_clock}
 use Rattle.pr_story.proofs.Settling.{AllAfter, Arrives, after, after_reversed, all_attached, arrives_begins, arrives_sends, arrives_stays, arrives_takes, settles_settle}
 use Rattle.pr_sim.specs.Commands.{Ends, IsCause, attached_of}
-use Rattle.pr_sim.specs.Running.{Declared, IsRunning, Tells, below}
+use Rattle.pr_sim.specs.Running.{IsRunning, Tells, below}
+use Rattle.pr_story.specs.Counts.{Declared}
 use Rattle.pr_sim.specs.Settles.{AreAtRest, AreInTime, AttachesAnew, HasRounds, MakesPart}
 use Rattle.pr_story.specs.Scripts.{AreRounds}
 use Rattle.pr_sim.proofs.Attaching.{just_one}

@@ -14,7 +14,8 @@ use Rattle.pr_story.specs.Remaining.{left_to_send}
 use Rattle.pr_story.specs.Scripts.{HasSent, events_of}
 use Rattle.pr_story.specs.Settling.{IsInTime}
 use Rattle.pr_sim.specs.Commands.{IsCause}
-use Rattle.pr_sim.specs.Running.{Declared, IsRunning, Tells, below}
+use Rattle.pr_sim.specs.Running.{IsRunning, Tells, below}
+use Rattle.pr_story.specs.Counts.{Declared}
 use Rattle.pr_sim.specs.Settles.{AreInTime, SettlesOn, Lessens, MakesPart, SaysSent}
 use Rattle.pr_sim.specs.declared.engine.Engine.{Engine}
 

@@ -17,7 +17,8 @@ use Rattle.pr_story.proofs.InOrder.{pairs_none}
 use Rattle.pr_text.specs.Steps.{line_of}
 use Rattle.pr_sim.specs.Commands.{Ends, GivesOne, IsNoLie, StepEnds, attached_of}
 use Rattle.pr_sim.specs.Flowing.{FlowEndsSo, StopsByWires}
-use Rattle.pr_sim.specs.Running.{Declared, IsRunning}
+use Rattle.pr_sim.specs.Running.{IsRunning}
+use Rattle.pr_story.specs.Counts.{Declared}
 use Rattle.pr_sim.specs.Stepping.{IsStopOf, StepsByWires, went_of}
 use Rattle.pr_sim.specs.declared.engine.Engine.{Engine}
 

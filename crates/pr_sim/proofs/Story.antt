@@ -8,7 +8,8 @@ use Rattle.pr_story.specs.History.{NodeEntry, journal}
 use Rattle.pr_story.specs.Places.{places_of}
 use Rattle.pr_story.specs.Remaining.{left_to_send}
 use Rattle.pr_story.specs.declared.event.Event.{Event}
-use Rattle.pr_sim.specs.Running.{Declared, IsRunning, Tells, below}
+use Rattle.pr_sim.specs.Running.{IsRunning, Tells, below}
+use Rattle.pr_story.specs.Counts.{Declared}
 use Rattle.pr_sim.specs.Settles.{MakesPart}
 use Rattle.pr_sim.proofs.Faults.{stopped_same}
 use Rattle.pr_sim.specs.declared.engine.Engine.{Engine}

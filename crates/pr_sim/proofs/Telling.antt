@@ -8,9 +8,9 @@ use Rattle.pr_node.specs.Stored.{Stored, means}
 use Rattle.pr_story.specs.declared.entry.Entry.{Entry}
 use Rattle.pr_story.specs.declared.event.Event.TheVariants.{Moved}
 use Rattle.pr_story.specs.History.{NodeEntry, journal}
-use Rattle.pr_story.specs.Counts.{AreDeclared, Counts}
+use Rattle.pr_story.specs.Counts.{AreDeclared, Counts, Declared}
 use Rattle.pr_story.specs.Places.{places_of}
-use Rattle.pr_sim.specs.Running.{Declared, Tells}
+use Rattle.pr_sim.specs.Running.{Tells}
 use Rattle.pr_sim.specs.declared.engine.Engine.{Engine}
 
 pub reverse_more : {A : Type 0} (x : A) (xs : List A) → reverse (x ∷ xs) ≡ reverse xs ++ x ∷ []

@@ -1,7 +1,8 @@
 -- The turns of a flow together, and what a step answers of them.
 use Rattle.std.proofs.Common.{◌≡◌, ℕ, ◌+◌, ◌-◌, ◌≤◌, List, [], ◌∷◌, ◌++◌, Result, Ok, Err, IsErrAnd, inl, inr, refl, sym, ◌∙◌, ap, subst, map, reverse, arith}
-use Rattle.std.specs.Prelude.{Bool, None}
-use Rattle.std.proofs.lemmas.List.{append-nil, append_assoc}
+use Rattle.std.specs.Prelude.{Bool, None, All, false}
+use Rattle.std.proofs.lemmas.List.{append-nil, append_assoc, reverse-append}
+use Rattle.std.proofs.lemmas.List.Elements.{All-nil}
 use Rattle.std.proofs.lemmas.Result.{err_from_is_err_and}
 use Rattle.pr_inval.specs.declared.node_fault.NodeFault.{NodeFault}
 use Rattle.pr_flow.specs.declared.flow_end.FlowEnd.{FlowEnd}
@@ -11,14 +12,17 @@ use Rattle.pr_flow.specs.declared.stop.Stop.TheVariants as stops
 use Rattle.pr_flow.specs.Ending.{EndsByWire, IsClean, IsCutBy, IsUntold}
 use Rattle.pr_story.specs.declared.cause.Cause.TheVariants.{Failed, Ended, Gap}
 use Rattle.pr_story.specs.declared.event.Event.{Event}
-use Rattle.pr_story.specs.declared.event.Event.TheVariants.{Down}
+use Rattle.pr_story.specs.declared.event.Event.TheVariants.{Down, Sent}
 use Rattle.pr_story.specs.History.{NodeEntry}
+use Rattle.pr_story.specs.Turns.{is_of_stream}
 use Rattle.pr_story.specs.Scripts.{AreTurns, Flow, JobAfterJob, LineBegins, events_of}
 use Rattle.pr_ports.specs.Faults.{HasRisen}
 use Rattle.pr_wires.specs.Calls.{WireState}
 use Rattle.pr_sim.specs.Commands.{Ends, attached_of}
-use Rattle.pr_sim.specs.Flowing.{FlowEndsSo, IsBegun, LeadsTo, StopsSo, TurnsEnd, WireGoesOn}
-use Rattle.pr_sim.specs.Running.{Declared, IsRunning}
+use Rattle.pr_flow.specs.Lies.{IsLied}
+use Rattle.pr_sim.specs.Flowing.{EndsInLie, FlowEndsSo, IsBegun, LeadsTo, StopsSo, TurnsEnd, WireGoesOn}
+use Rattle.pr_sim.specs.Running.{IsRunning}
+use Rattle.pr_story.specs.Counts.{Declared}
 use Rattle.pr_sim.specs.declared.engine.Engine.{Engine}
 use Rattle.pr_sim.proofs.Faults.{stopped_same}
 use Rattle.pr_sim.proofs.Flows.{events_append}
@@ -46,7 +50,20 @@ pub ends_behind : (s turns left : ℕ) (end : FlowEnd) (first es : List NodeEntr
     → TurnsEnd s None turns (left - 1) end (events_of (first ++ es))
 ends_behind s turns left ends.Done first es some leads is =
     λ rest next. behind s turns left first es rest leads (subst (λ (k : ℕ). AreTurns s None k (events_of es ++ rest)) (again left some) (is (left - 1) rest next))
-ends_behind s turns left (ends.Lied number sent got) first es some leads is = begins_behind s turns left first es some leads is
+ends_behind s turns left (ends.Lied number sent got) first es some leads is =
+    let lie = (is 0).1 in
+    let last = lie.3 in (
+      begins_behind s turns left first es some leads (λ k. (is k).0),
+      (
+        lie.0,
+        lie.1,
+        lie.2,
+        (
+          events_of first ++ last.0,
+          events_append first es ∙ ap (λ (events : List Event). events_of first ++ events) last.1 ∙ sym (append_assoc (events_of first) last.0 (Sent lie.0 ∷ [])),
+        ),
+      ),
+    )
 ends_behind s turns left ends.Stale first es some leads is = whole s turns left first es leads (subst (λ (k : ℕ). AreTurns s None k (events_of es)) (again left some) (is (left - 1)))
 ends_behind s turns left (ends.Down cause) first es some leads is = whole s turns left first es leads (subst (λ (k : ℕ). AreTurns s None k (events_of es)) (again left some) (is (left - 1)))
 
@@ -125,12 +142,41 @@ flow_failed s turns d attached h e was r err ended =
 went : (s turns : ℕ) (d : Declared) (attached : ℕ → Bool) (h : List NodeEntry) (e : Engine) (stop : Stop) → stop ≡ stops.Went → Ends (Flow s turns) d attached h e (Ok tt) → FlowEndsSo s turns d attached h e (Ok stop)
 went s turns d attached h e stop is ended = subst (λ (x : Stop). FlowEndsSo s turns d attached h e (Ok x)) (sym is) ended
 
+last_of : (a b : List Event) (x v : Event) → a ++ x ∷ [] ≡ b ++ v ∷ [] → x ≡ v
+last_of a b x v is = let r : x ∷ reverse a ≡ v ∷ reverse b = sym (reverse-append a (x ∷ [])) ∙ ap (λ (es : List Event). reverse es) is ∙ reverse-append b (v ∷ []) in cc
+
+-- the last event is the newest
+last_is : (new : List NodeEntry) (before : List Event) (v : Event) → events_of (reverse new) ≡ before ++ v ∷ [] → (x : NodeEntry) × (older : List NodeEntry) × (new ≡ x ∷ older) × (x.entry.event ≡ v)
+last_is [] before v is = absurd (no_end before v is)
+  where
+    no_end : (before : List Event) (v : Event) → [] ≡ before ++ v ∷ [] → ⊥
+    no_end [] v is = let n : [] ≡ v ∷ [] = is in absurd (cc)
+    no_end (b ∷ before) v is = let n : [] ≡ b ∷ (before ++ v ∷ []) = is in absurd (cc)
+last_is (x ∷ older) before v is = (x, older, refl, last_of (events_of (reverse older)) before x.entry.event v (sym (events_append (reverse older) (x ∷ [])) ∙ ap (λ (es : List NodeEntry). events_of es) (sym (reverse-append (x ∷ []) older)) ∙ is))
+
+lied_last : (s number : ℕ) (sent got : List ℕ) (h new : List NodeEntry) → EndsInLie s None number sent got (events_of (reverse new)) → IsLied (new ++ h) s number sent got
+lied_last s number sent got h new (msg, of, lie, (before, is)) =
+    let last = last_is new before (Sent msg) is in
+    record {
+      msg = msg;
+      stream = of;
+      last = record {
+        newer = [];
+        this = last.0;
+        older = last.1 ++ h;
+        all = ap (λ (es : List NodeEntry). es ++ h) last.2;
+        event_is = last.3;
+        others = All-nil (λ (e : NodeEntry). is_of_stream e.entry.event s ≡ false);
+      };
+      lie = lie;
+    }
+
 pub stop_ends : (s turns : ℕ) (d : Declared) (attached : ℕ → Bool) (h : List NodeEntry) (e : Engine) (end : FlowEnd) (stop : Stop) → StopsSo s end stop
     → (new : List NodeEntry) × IsRunning d attached (new ++ h) e × TurnsEnd s None turns 0 end (events_of (reverse new)) → FlowEndsSo s turns d attached h e (Ok stop)
 stop_ends s turns d attached h e ends.Done stop is (new, running, leads) =
     went s turns d attached h e stop is (new, running, inl (subst (λ (events : List Event). AreTurns s None turns events) (append-nil (events_of (reverse new))) (leads [] refl)))
 stop_ends s turns d attached h e ends.Stale stop is (new, running, are) = went s turns d attached h e stop is (new, running, inl are)
 stop_ends s turns d attached h e (ends.Down cause) stop is (new, running, are) = went s turns d attached h e stop is (new, running, inl are)
-stop_ends s turns d attached h e (ends.Lied number sent got) stop is (new, running, begun) =
+stop_ends s turns d attached h e (ends.Lied number sent got) stop is (new, running, (begun, lie)) =
     subst (λ (x : Stop). FlowEndsSo s turns d attached h e (Ok x)) (sym is)
-    (refl, (new, stopped_same d attached (new ++ h) e e running refl refl, flow_begins s turns (attached_of d attached) (reverse new) begun))
+    (refl, (new, stopped_same d attached (new ++ h) e e running refl refl, flow_begins s turns (attached_of d attached) (reverse new) begun, lied_last s number sent got h new lie))

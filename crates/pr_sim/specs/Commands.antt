@@ -3,6 +3,7 @@ use Rattle.std.specs.Prelude.{ℕ, List, ◌∷◌, ◌++◌, ◌≡◌, ◌≤�
 use Rattle.pr_inval.specs.declared.node_fault.NodeFault.{NodeFault}
 use Rattle.pr_inval.specs.declared.node_fault.NodeFault.TheVariants.{Worn}
 use Rattle.pr_inval.specs.declared.node_fault.NodeFault.TheVariants as faults
+use Rattle.pr_flow.specs.Lies.{IsLied}
 use Rattle.pr_flow.specs.declared.stop.Stop.{Stop}
 use Rattle.pr_flow.specs.declared.stop.Stop.TheVariants as stops
 use Rattle.pr_stamps.specs.declared.no_memory.NoMemory.{NoMemory}
@@ -21,7 +22,8 @@ use Rattle.pr_story.specs.Turns.{event_of}
 use Rattle.pr_inval.specs.Messages.{IsMessage}
 use Rattle.pr_story.specs.History.{NodeEntry}
 use Rattle.pr_story.specs.Scripts.{JobAfterJob, Line, LineBegins, LineGives, Single, attached_after}
-use Rattle.pr_sim.specs.Running.{Declared, IsRunning, Tells, below}
+use Rattle.pr_sim.specs.Running.{IsRunning, Tells, below}
+use Rattle.pr_story.specs.Counts.{Declared}
 use Rattle.pr_sim.specs.declared.engine.Engine.{Engine}
 
 -- P holds of each history that the engine has run, of what is declared and of which streams are attached
@@ -88,12 +90,13 @@ Ends line d attached h e r =
     Grows (λ done es. LineGives JobAfterJob (attached_of d attached) line es) (λ es. LineBegins JobAfterJob (attached_of d attached) line es)
     d (attached_after line attached) h e r
 
--- the answer of a step, or of a phase: the line was given, or it has begun, and other bytes came over a wire than were put
+-- the answer of a step, or of a phase: the line was given; or it has begun, and for the last message of the stream other
+-- bytes came over its wire than were put
 abbrev pub StepEnds : Line → Declared → (ℕ → Bool) → List NodeEntry → Engine → Result Stop NoMemory → Type 0
 StepEnds line d attached h e (Ok stops.Went) = Ends line d attached h e (Ok tt)
 StepEnds line d attached h e (Ok (stops.Worn at)) = Ends line d attached h e (Err (Worn at))
 StepEnds line d attached h e (Ok (stops.Lied stream number sent got)) =
-    (new : List NodeEntry) × Tells d (new ++ h) e × LineBegins JobAfterJob (attached_of d attached) line (reverse new)
+    (new : List NodeEntry) × Tells d (new ++ h) e × LineBegins JobAfterJob (attached_of d attached) line (reverse new) × IsLied (new ++ h) stream number sent got
 StepEnds line d attached h e (Err refused) = Ends line d attached h e (Err faults.NoMemory)
 
 -- it is not that

@@ -1,5 +1,5 @@
 -- A flow in one thread.
-use Rattle.std.specs.Prelude.{ℕ, List, ◌++◌, ◌≡◌, ◌<◌, ◌≤◌, ◌+◌, ◌^◌, Bool, IsTrue, Option, None, Result, Ok, Err, reverse}
+use Rattle.std.specs.Prelude.{ℕ, List, [], ◌∷◌, ◌++◌, ◌≡◌, ◌<◌, ◌≤◌, ◌+◌, ◌^◌, Bool, IsTrue, Option, None, Some, Result, Ok, Err, reverse}
 use Rattle.pr_inval.specs.declared.msg.Msg.{Msg}
 use Rattle.pr_inval.specs.declared.node_fault.NodeFault.{NodeFault}
 use Rattle.pr_flow.specs.declared.flow_end.FlowEnd.{FlowEnd}
@@ -7,17 +7,19 @@ use Rattle.pr_flow.specs.declared.flow_end.FlowEnd.TheVariants as ends
 use Rattle.pr_flow.specs.declared.stop.Stop.{Stop}
 use Rattle.pr_flow.specs.declared.stop.Stop.TheVariants as stops
 use Rattle.pr_flow.specs.Ending.{EndsByWire}
+use Rattle.pr_flow.specs.Lies.{IsLied, IsLieOf}
 use Rattle.pr_story.specs.declared.cause.Cause.{Cause}
 use Rattle.pr_story.specs.declared.cause.Cause.TheVariants.{Gap}
 use Rattle.pr_story.specs.declared.event.Event.{Event}
-use Rattle.pr_story.specs.declared.event.Event.TheVariants.{Down}
+use Rattle.pr_story.specs.declared.event.Event.TheVariants.{Down, Sent}
 use Rattle.pr_story.specs.History.{NodeEntry, Plan, WasSent}
 use Rattle.pr_story.specs.Lawful.{HasCause}
 use Rattle.pr_story.specs.Scripts.{AreTurns, Flow, JobAfterJob, LineBegins}
 use Rattle.pr_story.specs.Turns.{IsAttached}
 use Rattle.pr_wires.specs.Calls.{WireState}
 use Rattle.pr_sim.specs.Commands.{Ends, IsNoLie, attached_of}
-use Rattle.pr_sim.specs.Running.{Declared, IsRunning, Tells}
+use Rattle.pr_sim.specs.Running.{IsRunning, Tells}
+use Rattle.pr_story.specs.Counts.{Declared}
 use Rattle.pr_sim.specs.declared.engine.Engine.{Engine}
 
 -- ---- the end of a flow
@@ -39,10 +41,20 @@ IsBegun s under_way turns events = (rest : List Event) × AreTurns s under_way t
 abbrev pub LeadsTo : ℕ → Option Msg → ℕ → ℕ → List Event → Type 0
 LeadsTo s under_way turns left events = (rest : List Event) → AreTurns s None left rest → AreTurns s under_way turns (events ++ rest)
 
+-- what was under way, and the events
+abbrev pub from_way : Option Msg → List Event → List Event
+from_way None events = events
+from_way (Some m) events = Sent m ∷ events
+
+-- they end with the message of this number, of stream s, for which these other bytes came
+abbrev pub EndsInLie : ℕ → Option Msg → ℕ → List ℕ → List ℕ → List Event → Type 0
+EndsInLie s under_way number sent got events =
+    (msg : Msg) × (msg.stream ≡ s) × IsLieOf msg number sent got × ((before : List Event) × (from_way under_way events ≡ before ++ Sent msg ∷ []))
+
 -- the events are those of so many turns that ended so, with so many left where the flow goes on
 abbrev pub TurnsEnd : ℕ → Option Msg → ℕ → ℕ → FlowEnd → List Event → Type 0
 TurnsEnd s under_way turns left ends.Done events = LeadsTo s under_way turns left events
-TurnsEnd s under_way turns left (ends.Lied number sent got) events = IsBegun s under_way turns events
+TurnsEnd s under_way turns left (ends.Lied number sent got) events = IsBegun s under_way turns events × EndsInLie s under_way number sent got events
 TurnsEnd s under_way turns left end events = AreTurns s under_way turns events
 
 -- the message was sent on this attached stream
@@ -89,7 +101,7 @@ StopsSo s end stop = stop ≡ stops.Went
 abbrev pub FlowEndsSo : ℕ → ℕ → Declared → (ℕ → Bool) → List NodeEntry → Engine → Result Stop NodeFault → Type 0
 FlowEndsSo s turns d attached h e (Ok stops.Went) = Ends (Flow s turns) d attached h e (Ok tt)
 FlowEndsSo s turns d attached h e (Ok (stops.Lied t number sent got)) =
-    (t ≡ s) × ((new : List NodeEntry) × Tells d (new ++ h) e × LineBegins JobAfterJob (attached_of d attached) (Flow s turns) (reverse new))
+    (t ≡ s) × ((new : List NodeEntry) × Tells d (new ++ h) e × LineBegins JobAfterJob (attached_of d attached) (Flow s turns) (reverse new) × IsLied (new ++ h) t number sent got)
 FlowEndsSo s turns d attached h e (Ok (stops.Worn at)) = ⊥
 FlowEndsSo s turns d attached h e (Err fault) = Ends (Flow s turns) d attached h e (Err fault)
 

@@ -7,3 +7,4 @@ pub mod Stepping
 pub mod Phasing
 pub mod Settles
 pub mod Flowing
+pub mod Holding

@@ -3,6 +3,7 @@ use Rattle.std.specs.Prelude.{ℕ, List, [], ◌++◌, ◌≤◌, Bool, cond, Is
 use Rattle.std.specs.List.{AllByRecursion, flat_map}
 use Rattle.pr_inval.specs.declared.node_fault.NodeFault.{NodeFault}
 use Rattle.pr_inval.specs.declared.node_fault.NodeFault.TheVariants as faults
+use Rattle.pr_flow.specs.Lies.{IsLied}
 use Rattle.pr_flow.specs.declared.stop.Stop.{Stop}
 use Rattle.pr_flow.specs.declared.stop.Stop.TheVariants as stops
 use Rattle.pr_stamps.specs.declared.no_memory.NoMemory.{NoMemory}
@@ -19,7 +20,8 @@ use Rattle.pr_story.specs.Scripts.{AreOfCommands, Job, JobBegins, JobGives, Clie
 use Rattle.pr_text.specs.Steps.{is_owned_by, line_of, lines_by, single_of}
 use Rattle.pr_sim.specs.Commands.{Grows}
 use Rattle.pr_sim.specs.Making.{declared_of}
-use Rattle.pr_sim.specs.Running.{Declared, IsRunning, Tells}
+use Rattle.pr_sim.specs.Running.{IsRunning, Tells}
+use Rattle.pr_story.specs.Counts.{Declared}
 use Rattle.pr_sim.specs.Stepping.{AreAttached, CanRun, CanSend}
 use Rattle.pr_sim.specs.declared.engine.Engine.{Engine}
 
@@ -58,7 +60,8 @@ GivesAll commands d attached h e r = Grows (λ done es. AreOfCommands commands e
 abbrev pub JobEnds : Job → Declared → (ℕ → Bool) → List NodeEntry → Engine → Result Stop NoMemory → Type 0
 JobEnds job d attached h e (Ok stops.Went) = Grows {X = Unit {0}} (λ done es. JobGives job es) (λ es. JobBegins job es) d attached h e (Ok tt)
 JobEnds job d attached h e (Ok (stops.Worn at)) = Grows {X = Unit {0}} (λ done es. JobGives job es) (λ es. JobBegins job es) d attached h e (Err (faults.Worn at))
-JobEnds job d attached h e (Ok (stops.Lied stream number sent got)) = (new : List NodeEntry) × Tells d (new ++ h) e × JobBegins job (reverse new)
+JobEnds job d attached h e (Ok (stops.Lied stream number sent got)) =
+    (new : List NodeEntry) × Tells d (new ++ h) e × JobBegins job (reverse new) × IsLied (new ++ h) stream number sent got
 JobEnds job d attached h e (Err refused) = Grows {X = Unit {0}} (λ done es. JobGives job es) (λ es. JobBegins job es) d attached h e (Err faults.NoMemory)
 
 -- a good phase can be run, where the engine runs what is declared and the same streams are attached

@@ -5,24 +5,23 @@ use Rattle.pr_stamps.specs.Kept.{Kept}
 use Rattle.pr_vectors.specs.Vector.{zero_vector}
 use Rattle.pr_inval.specs.declared.msg.Msg.{Msg}
 use Rattle.pr_inval.specs.Standing.{Remembered}
-use Rattle.pr_inval.specs.Standing as Standing
 use Rattle.pr_node.specs.Stored.{Stored, means}
 use Rattle.pr_story.specs.History.{NodeEntry, Plan, WasSent, journal}
-use Rattle.pr_story.specs.Counts.{AreDeclared, Counts}
+use Rattle.pr_story.specs.Counts.{AreDeclared, Declared}
 use Rattle.pr_story.specs.Lawful.{Valid}
-use Rattle.pr_story.specs.Laws.{StandsFor}
 use Rattle.pr_story.specs.Clients.{client_node, client_vector}
-use Rattle.pr_story.specs.Turns.{IsAttached}
 use Rattle.pr_inval.specs.Messages.{IsMessage}
 use Rattle.pr_story.specs.Places.{places_of, sent_places}
+use Rattle.pr_merge.specs.Holding as holding
+use Rattle.pr_merge.specs.Holding.{AreSessions}
 use Rattle.pr_sim.specs.declared.engine.Engine.{Engine}
 use Rattle.pr_sim.specs.declared.engine.Route.{Route}
 
 -- ---- what holds whatever came of a call
 
--- the node's journal is its part of the history
+-- the nodes that stand there have the journals of the history
 abbrev pub HasJournals : List NodeEntry → List (Option Stored) → Type 0
-HasJournals h nodes = (n : ℕ) (m : Stored) → get_or nodes n None ≡ Some m → (means m).journal ≡ journal h n
+HasJournals h nodes = holding.HasJournals (λ (m : Stored). (means m).journal) h nodes
 
 -- the places and the nodes tell a valid history
 pub record Told (plan : Plan) (h : List NodeEntry) (nodes : List (Option Stored)) (places : List (ℕ × ℕ)) : Type 0 where
@@ -44,15 +43,6 @@ pub record IsNode (plan : Plan) (h : List NodeEntry) (n : ℕ) (m : Stored) : Ty
 pub record AreNodes (plan : Plan) (h : List NodeEntry) (nodes : List (Option Stored)) : Type 0 where
   pub few : length nodes ≤ 32
   pub each : (n : ℕ) → n < length nodes → (m : Stored) × (get_or nodes n None ≡ Some m) × IsNode plan h n m
-
-pub record IsSession (plan : Plan) (h : List NodeEntry) (s : ℕ) (x : Remembered) : Type 0 where
-  pub stream : x.stream ≡ s
-  pub stands : StandsFor plan h s (Standing.means x).standing
-  pub attached : IsTrue x.attached → IsAttached h s
-
--- no session is out
-abbrev pub AreSessions : Plan → List NodeEntry → List (Option Remembered) → Type 0
-AreSessions plan h sessions = (s : ℕ) → s < length sessions → (x : Remembered) × (get_or sessions s None ≡ Some x) × IsSession plan h s x
 
 -- where each client stands, of so many nodes, and what it has seen
 pub record AreClients (plan : Plan) (h : List NodeEntry) (count : ℕ) (homes : List ℕ) (seen : List (List ℕ)) : Type 0 where
@@ -83,13 +73,6 @@ pub record Stands (plan : Plan) (h : List NodeEntry) (e : Engine) : Type 0 where
   pub sent : AreSent h e.sent.items
   pub many : length e.routes.items ≡ length e.sessions.items
   pub many_sent : length e.sent.items ≡ length e.sessions.items
-
--- ---- what is declared
-
--- the declarations as a plan, and how many there are of each kind
-pub record Declared : Type 0 where
-  pub plan : Plan
-  pub counts : Counts
 
 -- the numbers below n
 abbrev pub below : ℕ → List ℕ

@@ -9,7 +9,8 @@ use Rattle.pr_story.specs.Remaining.{left_to_send}
 use Rattle.pr_story.specs.Scripts.{AreAttaches, AreRounds, AreSettled, HasSent, events_of}
 use Rattle.pr_story.specs.Settling.{IsInTime, IsSettled}
 use Rattle.pr_sim.specs.Commands.{ForEachRun, Grows, IsCause, attached_of}
-use Rattle.pr_sim.specs.Running.{Declared, IsRunning, Tells, below}
+use Rattle.pr_sim.specs.Running.{IsRunning, Tells, below}
+use Rattle.pr_story.specs.Counts.{Declared}
 use Rattle.pr_sim.specs.declared.engine.Engine.{Engine}
 
 -- ---- streams in time

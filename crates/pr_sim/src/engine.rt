@@ -1,7 +1,8 @@
 // The engine.
 ghost use Rattle.pr_node.specs.Stored.{Stored, means};
 ghost use Rattle.pr_story.specs.Places.{places_of};
-ghost use Rattle.pr_sim.specs.Running.{Declared, Tells};
+ghost use Rattle.pr_sim.specs.Running.{Tells};
+ghost use Rattle.pr_story.specs.Counts.{Declared};
 ghost use Rattle.pr_story.specs.declared.entry.Entry.{Entry};
 ghost use Rattle.pr_story.specs.History.{NodeEntry, journal};
 ghost use Rattle.std.specs.Prelude.{◌≡◌, ◌<◌, List, MatchOption, None, Some, ◌≤◌, length, reverse, slice_index_or, ℕ};
@@ -85,7 +86,8 @@ pub fn node_at(nodes: &Vec<Option<Node>>, node: u32) -> &Node
     }
 }
 
-fn journal_of(slot: &Option<Node>) -> Option<&Journal>
+// The journal of the node that stands there.
+pub fn journal_of(slot: &Option<Node>) -> Option<&Journal>
     ensures { MatchOption result (slot.now ≡ None) (λ j. (m : Stored) × (slot.now ≡ Some m) × (reverse j.now.items ≡ (means m).journal)) }
 {
     match slot {
@@ -101,7 +103,8 @@ fn place_at(places: &[(u32, usize)], at: usize) -> (u32, usize)
     places[at]
 }
 
-fn entry_at(node: &Node, place: usize) -> &Entry
+// The entry at this place of the node's journal.
+pub fn entry_at(node: &Node, place: usize) -> &Entry
     requires { place < length (means node.now).journal }
     ensures { (e : Entry) → result.now ≡ slice_index_or (reverse (means node.now).journal) place e }
 {

@@ -5,6 +5,7 @@ mod clients;
 mod delivering;
 mod engine;
 mod flowing;
+mod holding;
 mod jobs;
 mod making;
 mod messages;
@@ -17,5 +18,6 @@ mod streams;
 mod tests;
 
 pub use engine::Engine;
+pub use holding::running_engines_represent;
 pub use jobs::good_phases_can_be_run;
 pub use stepping::good_commands_can_be_run;

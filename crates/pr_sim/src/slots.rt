@@ -4,7 +4,7 @@ ghost use Rattle.pr_stamps.specs.Kept.{Kept};
 ghost use Rattle.pr_story.specs.Turns.{event_of};
 ghost use Rattle.pr_sim.specs.Places.{HasNoted, OfStream};
 ghost use Rattle.pr_story.specs.Places.{sent_after};
-ghost use Rattle.std.specs.Prelude.{◌≡◌, ◌<◌, ◌++◌, [], ◌∷◌, ℕ, List, None, OnOk, Some, length, slice_index_or, slice_set};
+ghost use Rattle.std.specs.Prelude.{◌≡◌, ◌<◌, ◌≤◌, ◌++◌, [], ◌∷◌, ℕ, List, None, OnOk, Some, length, slice_index_or, slice_set};
 
 use crate::engine::Route;
 use pr_inval::Step;
@@ -32,14 +32,15 @@ pub fn route(routes: &Vec<Route>, at: u32) -> Route
     routes[at as usize]
 }
 
-// Makes room to note a place of a stream's message.
-pub fn room_for(sent: &mut Vec<Roomy<usize>>, stream: u32) -> Result<(), NoMemory>
+// Makes room to note so many places of a stream's messages.
+pub fn room_for(sent: &mut Vec<Roomy<usize>>, stream: usize, more: usize) -> Result<(), NoMemory>
     requires { stream < length sent.old.items }
-    ensures room { OnOk result ((d : Kept ℕ) → 0 < (slice_index_or sent.new.items stream d).room) }
+    ensures room { OnOk result ((d : Kept ℕ) → more ≤ (slice_index_or sent.new.items stream d).room) }
     ensures many { length sent.new.items ≡ length sent.old.items }
     ensures items { (s : ℕ) (d : Kept ℕ) → (slice_index_or sent.new.items s d).items ≡ (slice_index_or sent.old.items s d).items }
+    ensures others { (s : ℕ) (d : Kept ℕ) → (s ≡ stream → ⊥) → slice_index_or sent.new.items s d ≡ slice_index_or sent.old.items s d }
 {
-    sent[stream as usize].reserve(1)
+    sent[stream].reserve(more)
 }
 
 // Notes the place of a stream's message, for which there is room.

@@ -49,7 +49,7 @@ impl Engine {
     {
         let node = route(&self.routes, stream).source;
         self.history.reserve(1)?;
-        room_for(&mut self.sent, stream)?;
+        room_for(&mut self.sent, stream as usize, 1)?;
         let mut at = take(&mut self.nodes, node);
         let mut session = take(&mut self.sessions, stream);
         let place = at.journal().len();
@@ -82,7 +82,7 @@ impl Engine {
     {
         let node = route(&self.routes, stream).source;
         self.history.reserve(1)?;
-        room_for(&mut self.sent, stream)?;
+        room_for(&mut self.sent, stream as usize, 1)?;
         let mut at = take(&mut self.nodes, node);
         let mut session = take(&mut self.sessions, stream);
         let place = at.journal().len();

@@ -23,6 +23,11 @@ pub record Counts : Type 0 where
   pub clients : ℕ
   pub streams : ℕ
 
+-- what is declared: as a plan, and how many there are of each kind
+pub record Declared : Type 0 where
+  pub plan : Plan
+  pub counts : Counts
+
 -- ---- whose the events are
 
 -- the client or the stream of the event is declared

@@ -6,6 +6,7 @@ mod entry;
 mod event;
 mod found;
 mod journal;
+mod journaled;
 mod law;
 pub mod plain;
 mod reply;
@@ -17,6 +18,7 @@ pub use entry::Entry;
 pub use event::Event;
 pub use found::Found;
 pub use journal::Journal;
+pub use journaled::Journaled;
 pub use law::{
     answers_are_alike, commands_determine_the_history, each_stream_has_one_turn,
     entries_have_places, equal_vectors_answer_alike, few_invalidations_are_sent,

@@ -7,7 +7,7 @@ use Rattle.pr_story.specs.Scripts.{events_of}
 use Rattle.pr_sim.specs.Commands.{Grows}
 use Rattle.pr_sim.specs.Flowing.{IsBegun, IsOnTheWay, TurnsEnd}
 use Rattle.pr_sim.proofs.Faults.{no_memory, stopped_same, this_cause}
-use Rattle.pr_sim.proofs.Flows.{cut_can, cut_is_no_gap, down_is, not_grown, sent_begun}
+use Rattle.pr_sim.proofs.Flows.{cut_can, cut_is_no_gap, down_is, is_no_beginning, not_grown, sent_begun}
 use Rattle.pr_sim.proofs.engine.Engine.cross.Goals as goal
 
 pub returns-in_err-msg-clause-flowed : goal.returns-in_err-msg-clause-flowed
@@ -38,4 +38,7 @@ returns-in_ok-go_down-in-Cut-clause-flowed g c d attached h k way =
     (made.0 ∷ [], made.1, λ left. down_is c.args.stream left c.args.msg.now c.in-Cut.cause made.0 (cut_is_no_gap c.in-Cut.cause (w.state c.args.wire.now) (w.state c.carry.new.wire) moved.0) made.2)
 
 pub returns-in-Lied-clause-flowed : goal.returns-in-Lied-clause-flowed
-returns-in-Lied-clause-flowed g c d attached h k way = ([], k, λ left. sent_begun c.args.stream left c.args.msg.now)
+returns-in-Lied-clause-flowed g c d attached h k way =
+    let w = g.W.Wire in
+    let moved = subst (λ (x : Carried). HasCarried (w.state c.args.wire.now) (w.state c.carry.new.wire) c.args.msg.now x) c.in-Lied.is c.in_ok-msg.ensures.moved in
+    ([], k, λ left. (sent_begun c.args.stream left c.args.msg.now, (c.args.msg.now, way.1, (refl, moved.0, is_no_beginning (w.state c.args.wire.now) (w.state c.carry.new.wire) c.in-Lied.sent c.in-Lied.got c.requires.under moved.1), ([], refl))))

@@ -2,7 +2,8 @@ use Rattle.std.specs.Prelude.{ℕ, List, ◌++◌, ◌<◌, Bool, None, length, 
 use Rattle.pr_story.specs.History.{NodeEntry}
 use Rattle.pr_story.specs.Scripts.{events_of}
 use Rattle.pr_sim.specs.Flowing.{LeadsTo, WireGoesOn}
-use Rattle.pr_sim.specs.Running.{Declared, HasAttached, IsKept, IsRunning}
+use Rattle.pr_sim.specs.Running.{HasAttached, IsKept, IsRunning}
+use Rattle.pr_story.specs.Counts.{Declared}
 use Rattle.pr_sim.proofs.engine.Engine.flow_over.Given as goal
 
 abbrev pub invariant-loop-left : goal.invariant-loop-left

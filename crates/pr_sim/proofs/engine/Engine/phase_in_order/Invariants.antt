@@ -6,7 +6,8 @@ use Rattle.pr_story.specs.Scripts.{JobGives}
 use Rattle.pr_story.proofs.JobAfterJob.{AreOfJobs}
 use Rattle.pr_text.specs.Steps.{job_of}
 use Rattle.pr_sim.specs.Phasing.{CanDo, IsJobLine}
-use Rattle.pr_sim.specs.Running.{Declared, IsKept, IsRunning}
+use Rattle.pr_sim.specs.Running.{IsKept, IsRunning}
+use Rattle.pr_story.specs.Counts.{Declared}
 use Rattle.pr_sim.proofs.JobParts.{WiresSoFar}
 use Rattle.pr_sim.proofs.engine.Engine.phase_in_order.Given as goal
 
