@@ -8,3 +8,4 @@ pub mod Rings
 pub mod Runs
 pub mod Accepting
 pub mod Scripts
+pub mod Counting

@@ -1,3 +1,4 @@
 pub mod Draws
 pub mod Topology
 pub mod Workload
+pub mod Summary

@@ -4,3 +4,4 @@ pub mod Orders
 pub mod Standing
 pub mod Tournament
 pub mod Phasing
+pub mod Holding

@@ -1,5 +1,5 @@
 -- The nodes, sessions and history of a run, as whoever runs jobs beside each other sees them.
-use Rattle.std.specs.Prelude.{ℕ, List, ◌≡◌, ◌<◌, ◌++◌, IsTrue, Option, Some, None, length, get_or}
+use Rattle.std.specs.Prelude.{ℕ, List, ◌≡◌, ◌<◌, ◌++◌, All, IsTrue, Option, Some, None, length, get_or}
 use Rattle.pr_names.specs.Span.{Span}
 use Rattle.pr_inval.specs.declared.msg.Msg.{Msg}
 use Rattle.pr_inval.specs.Messages.{IsMessage}
@@ -43,6 +43,13 @@ module _ {N : Type 0} (journal : N → List Entry) where
   -- the nodes that stand there have the journals of the history
   abbrev pub HasJournals : List NodeEntry → List (Option N) → Type 0
   HasJournals h nodes = (n : ℕ) (m : N) → get_or nodes n None ≡ Some m → journal m ≡ history.journal h n
+
+  -- it holds the history: no node is out, and places and journals are those of the history
+  pub record HasHistory (h : List NodeEntry) (s : HeldState N) : Type 0 where
+    pub here : AreAllHere s.nodes
+    pub journals : HasJournals h s.nodes
+    pub places : s.places ≡ places_of h
+    pub within : All (λ (p : ℕ × ℕ). p.0 < length s.nodes) s.places
 
   -- the entries at these places, which the journals of the nodes have, come behind the history
   pub record AddsPlaces (d : Declared) (h new : List NodeEntry) (s : HeldState N) (places : List (ℕ × ℕ)) : Type 0 where

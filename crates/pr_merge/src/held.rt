@@ -1,6 +1,7 @@
 // What runs jobs lends its nodes and streams to them.
 ghost use Rattle.pr_inval.specs.Standing.{Remembered};
-ghost use Rattle.pr_merge.specs.Holding.{AddsPlaces, HeldState};
+ghost use Rattle.pr_merge.specs.Holding.{AddsPlaces, HasHistory, HeldState};
+ghost use Rattle.pr_story.specs.declared.entry.Entry.{Entry};
 ghost use Rattle.pr_story.specs.Clients.{client_node, client_vector};
 ghost use Rattle.pr_story.specs.Counts.{Declared};
 ghost use Rattle.pr_story.specs.History.{NodeEntry};
@@ -8,7 +9,7 @@ ghost use Rattle.std.specs.Prelude.{◌≡◌, ◌<◌, ◌≤◌, ◌++◌, ℕ
 
 use pr_inval::Session;
 use pr_stamps::NoMemory;
-use pr_story::{Journal, Journaled};
+use pr_story::{Entry, Journal, Journaled};
 use pr_vectors::Vector;
 
 /// All nodes, streams and clients of a run, and its history: the node of each entry and its place in that node's
@@ -91,4 +92,31 @@ pub trait Held {
     /// The node of each entry, and the entry's place in that node's journal, in the order in which they were made.
     fn history(&self) -> &[(u32, usize)]
         ensures { result.now ≡ (state self.now).places };
+}
+
+/// The node of the entry at this place of the history, and the entry, in constant time.
+pub fn entry_at<H: Held>(held: &H, at: usize) -> (u32, &Entry)
+    requires { (h : List NodeEntry) × HasHistory H.Node.journal h (H.state held.now) × (at < length h) }
+    ensures node { (h : List NodeEntry) (e : NodeEntry) → HasHistory H.Node.journal h (H.state held.now) → at < length h → result.0 ≡ (get_or (reverse h) at e).node }
+    ensures entry { (h : List NodeEntry) (e : NodeEntry) → HasHistory H.Node.journal h (H.state held.now) → at < length h → result.1.now ≡ (get_or (reverse h) at e).entry }
+{
+    let (node, place) = place_at(held.history(), at);
+    match held.journal(node) {
+        Some(journal) => (node, entry_in(journal, place)),
+        None => unreachable!(),
+    }
+}
+
+fn place_at(places: &[(u32, usize)], at: usize) -> (u32, usize)
+    requires { at < length places.now }
+    ensures { result ≡ get_or places.now at (0, 0) }
+{
+    places[at]
+}
+
+fn entry_in(journal: &Journal, place: usize) -> &Entry
+    requires { place < length journal.now.items }
+    ensures { (e : Entry) → result.now ≡ get_or journal.now.items place e }
+{
+    &journal.entries()[place]
 }

@@ -7,7 +7,7 @@ mod merging;
 #[cfg(test)]
 mod tests;
 
-pub use held::Held;
+pub use held::{Held, entry_at};
 pub use law::{
     jobs_by_time_are_a_phase, merged_entries_stand_by_time, no_place_stands_twice,
     one_merged_order, order_by_time_keeps_nodes_and_jobs,

@@ -24,4 +24,7 @@ pub use ending::{bad, error, lied, ok, unmet};
 pub use event::line;
 pub use expectation::met;
 pub use head::heads;
+pub use label::push_about;
 pub use law::{lines_tell_the_history, phases_have_apart_jobs, runs_are_histories, runs_go_on};
+pub use stamp::push_number;
+pub use vector::push_vector;
