@@ -1,2 +1,4 @@
 pub mod Calls
+pub mod Counters
+pub mod Loops
 pub mod Made

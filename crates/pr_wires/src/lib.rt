@@ -1,6 +1,9 @@
 //! Connections between nodes: wires, and what makes them.
 #![tactic(auto)]
 
+mod causes;
+mod loop_wire;
+mod loop_wires;
 mod tape_wire;
 mod tape_wires;
 #[cfg(test)]
@@ -10,6 +13,8 @@ mod true_wires;
 mod wire;
 mod wires;
 
+pub use loop_wire::LoopWire;
+pub use loop_wires::LoopWires;
 pub use pr_ports::Failed;
 pub use tape_wire::TapeWire;
 pub use tape_wires::TapeWires;

@@ -1,6 +1,6 @@
 ghost use Rattle.std.specs.Prelude.{◌≡◌, ◌≤◌, ◌+◌, IsTrue, length};
 
-use crate::{TapeWires, TrueWires, Wire, Wires};
+use crate::{LoopWires, TapeWires, TrueWires, Wire, Wires};
 use std::test::Fail;
 
 // Puts a piece into a wire that holds nothing, and takes it again: whether it is the same.
@@ -45,5 +45,16 @@ fn a_tape_keeps_what_went_over_it(rt: HostRuntime) -> Result<(), Fail> {
     wires.close(wire);
     assert_eq!(rt; wires.carried(), Some(b"abcdefg".as_slice()));
     assert!(rt; wires.connect(0, 1).is_err());
+    Ok(())
+}
+
+#[test]
+fn a_loop_wire_gives_what_was_put(rt: HostRuntime) -> Result<(), Fail> {
+    let mut wires = LoopWires::new(&rt);
+    let mut wire = wires.connect(0, 1).ok().ok_or("a wire")?;
+    assert!(rt; goes_through(&mut wire, b"abcd"));
+    assert!(rt; goes_through(&mut wire, b"efg"));
+    assert!(rt; goes_through(&mut wire, b""));
+    wires.close(wire);
     Ok(())
 }
