@@ -1,1 +1,3 @@
+pub mod Extras
+pub mod Plans
 pub mod Tapes

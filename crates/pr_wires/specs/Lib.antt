@@ -1,3 +1,4 @@
+pub mod Bends
 pub mod Calls
 pub mod Counters
 pub mod Loops

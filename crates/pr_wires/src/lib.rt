@@ -1,6 +1,10 @@
 //! Connections between nodes: wires, and what makes them.
 #![tactic(auto)]
 
+mod behind;
+mod bend;
+mod bent_wire;
+mod bent_wires;
 mod causes;
 mod loop_wire;
 mod loop_wires;
@@ -13,6 +17,9 @@ mod true_wires;
 mod wire;
 mod wires;
 
+pub use bend::Bend;
+pub use bent_wire::BentWire;
+pub use bent_wires::BentWires;
 pub use loop_wire::LoopWire;
 pub use loop_wires::LoopWires;
 pub use pr_ports::Failed;
