@@ -7,6 +7,7 @@ use Rattle.std.proofs.lemmas.Bool.Decides.{nat_tests}
 use Rattle.pr_wires.specs.Counters.{one_more}
 use Rattle.pr_wires.specs.Calls.{Grows, HasJust}
 use Rattle.pr_wires.specs.Bends.{Bent, bent, called, told, extra, put_in, repeats, repeats_before}
+use Rattle.pr_wires.proofs.Bytes.{others_keep_bytes}
 use Rattle.pr_wires.specs.declared.bend.Bend.{Bend}
 use Rattle.pr_wires.specs.declared.bend.Bend.TheVariants.{NoConnect, Fail, End, Flip, Again}
 
@@ -61,13 +62,9 @@ room_kept n next under coming new byte bends again small is after grown some mos
 
 -- ---- a wire without a bend
 
-bent_plain : (n : ℕ) (bytes : List ℕ) → bent [] n bytes ≡ bytes
-bent_plain n [] = refl
-bent_plain n (byte ∷ bytes) = ap (λ (rest : List ℕ). byte ∷ rest) (bent_plain (one_more n) bytes)
-
 -- what is told grows by the bytes that are put
 pub told_grows : (bends : List Bend) (n : ℕ) (coming bytes : List ℕ) → Grows (told bends coming) (told bends (coming ++ bent bends n bytes)) bytes
-told_grows [] n coming bytes = ap (λ (rest : List ℕ). let o : Option (List ℕ) = Some (coming ++ rest) in o) (bent_plain n bytes)
+told_grows [] n coming bytes = ap (λ (rest : List ℕ). let o : Option (List ℕ) = Some (coming ++ rest) in o) (others_keep_bytes [] n bytes refl)
 told_grows (bend ∷ bends) n coming bytes = refl
 
 -- what is told has just the bytes under way
@@ -80,7 +77,7 @@ just_before : (bends : List Bend) (n next under : ℕ) (coming bytes : List ℕ)
     → HasJust (told bends coming) under
 just_before [] n next under coming bytes some most =
     let l = length-append coming (bent [] n bytes) in
-    let p = ap (λ (xs : List ℕ). length xs) (bent_plain n bytes) in omega (arith, l, p)
+    let p = ap (λ (xs : List ℕ). length xs) (others_keep_bytes [] n bytes refl) in omega (arith, l, p)
 just_before (bend ∷ bends) n next under coming bytes some most = tt
 
 -- what is told of a wire that bytes are put in

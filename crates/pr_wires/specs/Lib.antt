@@ -1,3 +1,4 @@
+pub mod BendLaws
 pub mod Bends
 pub mod Calls
 pub mod Counters
