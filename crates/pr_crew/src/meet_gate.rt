@@ -1,6 +1,6 @@
 // A gate at which lines meet.
-ghost use Rattle.pr_crew.specs.Lines.{bits_of, count_set};
-ghost use Rattle.std.specs.Prelude.{◌≡◌, ◌≤◌, if◌then◌else◌, length};
+ghost use Rattle.pr_crew.specs.Lines.{AreSet, IsMarked, bits_of, count_set};
+ghost use Rattle.std.specs.Prelude.{◌≡◌, ◌≤◌, ◌↔◌, Contains, IsTrue, if◌then◌else◌, length};
 
 use crate::Gate;
 use crate::looks::is_seen;
@@ -58,6 +58,11 @@ impl MeetGate {
     pub fn gave_up(&self) -> bool {
         self.gave_up.load(Ordering::SeqCst)
     }
+
+    // Whether all of its lines were reached.
+    fn all_met(&self) -> bool {
+        are_set(self.reached.load(Ordering::SeqCst), self.lines.len())
+    }
 }
 
 impl Gate for MeetGate {
@@ -67,16 +72,19 @@ impl Gate for MeetGate {
             return;
         }
         self.reached.fetch_or(bits, Ordering::SeqCst);
-        if !is_seen(self.looks, || self.lines_met() == self.lines.len()) {
-            self.gave_up.store(true, Ordering::SeqCst);
+        if self.all_met() || is_seen(self.looks, || self.all_met()) {
+            return;
         }
+        self.gave_up.store(true, Ordering::SeqCst);
     }
 }
 
 // The bits of a line.
 fn bits(lines: &[u64], line: u64) -> u64
     requires { length lines.now ≤ 64 }
-    ensures { result ≡ bits_of lines.now line }
+    ensures value { result ≡ bits_of lines.now line }
+    ensures marked { IsMarked lines.now line result }
+    ensures absent { result ≡ 0 ↔ ¬ Contains lines.now line }
 {
     let mut bits = 0;
     for k in (0..lines.len()).rev() {
@@ -91,6 +99,14 @@ fn bit(set: bool) -> u64
     ensures { result ≡ (if set then 1 else 0) }
 {
     u64::from(set)
+}
+
+// Whether all of the first bits of a word are set.
+fn are_set(word: u64, count: usize) -> bool
+    requires { count ≤ 64 }
+    ensures { IsTrue result ↔ AreSet word count }
+{
+    set_bits(word, count) == count
 }
 
 // How many of the first bits of a word are set.

@@ -18,7 +18,7 @@ fn a_free_gate_is_open(rt: HostRuntime) {
 
 #[test]
 fn one_line_meets_itself_alone(rt: HostRuntime) -> Result<(), Fail> {
-    let gate = MeetGate::new(vec![in rt.alloc(); 7]?, 1);
+    let gate = MeetGate::new(vec![in rt.alloc(); 7]?, 0);
     gate.reached(&rt, 6);
     assert_eq!(rt; gate.lines_met(), 0);
     gate.reached(&rt, 7);
