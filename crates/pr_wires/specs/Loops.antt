@@ -1,7 +1,7 @@
 -- Wires over TCP, which tell counts alone.
 use Rattle.std.specs.Prelude.{◌≡◌, ℕ, false, None, Result, Ok, Err}
 use Rattle.pr_wires.specs.Calls.{WireState}
-use Rattle.pr_wires.specs.Counters.{one_more}
+use Rattle.pr_wires.specs.Counters.{ends_after, one_more}
 
 -- how often a wire has failed, and ended, and how many bytes are under way
 pub record Loop : Type 0 where
@@ -21,10 +21,11 @@ loop_state a = record {
   sound = false;
 }
 
--- a call that failed is one fault more, and nothing else
-abbrev pub IsCounted : {E : Type 0} → Loop → Loop → Result ℕ E → Type 0
-IsCounted a b (Ok n) = b.faults ≡ a.faults
-IsCounted a b (Err e) = b ≡ record a { faults = one_more a.faults }
+-- a call of so many bytes that failed is one fault more, and nothing else; any other is no fault, and one end more just
+-- where it moved none of some
+abbrev pub IsCounted : {E : Type 0} → Loop → Loop → ℕ → Result ℕ E → Type 0
+IsCounted a b len (Ok n) = (b.faults ≡ a.faults) × (b.ends ≡ ends_after a.ends n len)
+IsCounted a b len (Err e) = b ≡ record a { faults = one_more a.faults }
 
 -- a maker of such wires: those asked for, those that are out, and how often none could be made
 pub record Makers : Type 0 where

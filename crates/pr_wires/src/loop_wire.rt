@@ -49,7 +49,7 @@ impl Wire for LoopWire {
     fn put(&mut self, piece: &[u8]) -> Result<usize, Failed>
         requires { self.old.under + length piece.now ≤ 4096 }
         ensures put { HasPut (loop_state self.old) (loop_state self.new) piece.now result }
-        ensures counted { IsCounted self.old self.new result }
+        ensures counted { IsCounted self.old self.new (length piece.now) result }
     {
         match self.near.write(piece) {
             Ok(put) => {
@@ -64,7 +64,7 @@ impl Wire for LoopWire {
     fn take(&mut self, buf: &mut [u8]) -> Result<usize, Failed>
         requires { length buf.old ≤ self.old.under }
         ensures taken { HasTaken (loop_state self.old) (loop_state self.new) (length buf.old) buf.new result }
-        ensures counted { IsCounted self.old self.new result }
+        ensures counted { IsCounted self.old self.new (length buf.old) result }
     {
         if buf.is_empty() {
             // The system would wait for a byte.
