@@ -1,10 +1,10 @@
 -- Which bends change bytes, and which stop calls.
-use Rattle.std.proofs.Common.{◌≡◌, ℕ, ◌+◌, Bool, true, false, IsTrue, List, [], ◌∷◌, ◌++◌, ◌||◌, ap, sym, ◌∙◌, refl, subst}
+use Rattle.std.proofs.Common.{◌≡◌, ℕ, Bool, true, false, List, [], ◌∷◌, ◌++◌, ◌||◌, ap, ◌∙◌, refl}
 use Rattle.std.specs.Prelude.{if◌then◌else◌, bit_xor}
 use Rattle.std.specs.List.{list_any}
 use Rattle.pr_wires.specs.BendLaws.{BytesStopNothing, OthersKeepBytes, is_of_bytes}
 use Rattle.pr_wires.specs.Counters.{one_more}
-use Rattle.pr_wires.specs.Bends.{bent, bytes_for, flips, repeats}
+use Rattle.pr_wires.specs.Bends.{bent, flips, repeats}
 use Rattle.pr_wires.specs.declared.bend.Bend.{Bend}
 use Rattle.pr_wires.specs.declared.bend.Bend.TheVariants.{NoConnect, Fail, End, Flip, Again}
 

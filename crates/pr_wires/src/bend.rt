@@ -20,6 +20,11 @@ pub enum Bend {
 
 /// A bend of no connection.
 impl Default for Bend {
+    ghost use Rattle.std.specs.Prelude.{◌≡◌};
+    ghost use Rattle.pr_wires.specs.declared.bend.Bend.TheVariants.{NoConnect};
+
+    ghost is_default = { λ b. b ≡ NoConnect 0 };
+
     fn default() -> Bend {
         Bend::NoConnect { nth: 0 }
     }
