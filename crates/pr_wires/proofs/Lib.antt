@@ -1,1 +1,4 @@
+pub mod Bytes
+pub mod Extras
+pub mod Plans
 pub mod Tapes

@@ -2,6 +2,7 @@
 ghost use Rattle.std.specs.Prelude.{◌≡◌, ◌≤◌, [], drop, length, None, Some, true};
 
 use crate::Wire;
+use crate::behind::behind;
 use arrayvec::ArrayVec;
 use pr_ports::Failed;
 use std::marker::Model;
@@ -52,14 +53,4 @@ impl Wire for TrueWire {
         self.at += len;
         Ok(len)
     }
-}
-
-// The bytes from a place on.
-fn behind(bytes: &ArrayVec<u8, 4096>, at: usize) -> ArrayVec<u8, 4096>
-    requires { at ≤ length bytes.now.items }
-    ensures { result.items ≡ drop at bytes.now.items }
-{
-    let mut rest = ArrayVec::new();
-    let _ = rest.try_extend_from_slice(&bytes.as_slice()[at..]);
-    rest
 }

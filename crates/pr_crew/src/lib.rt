@@ -1,0 +1,13 @@
+//! Jobs beside each other, and the gates at which they meet.
+#![tactic(auto)]
+
+mod free_gate;
+mod gate;
+mod looks;
+mod meet_gate;
+#[cfg(test)]
+mod tests;
+
+pub use free_gate::FreeGate;
+pub use gate::Gate;
+pub use meet_gate::MeetGate;
