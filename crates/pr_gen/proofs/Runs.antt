@@ -1,6 +1,6 @@
 -- The commands of a workload are good for a run.
-use Rattle.std.proofs.Common.{◌≡◌, ℕ, zero, suc, ◌+◌, ◌*◌, ◌<◌, ◌≤◌, Bool, true, false, cond, List, [], ◌∷◌, ◌++◌, length, refl, sym, ap, subst, arith, length-append}
-use Rattle.std.specs.Prelude.{nat_lt}
+use Rattle.std.proofs.Common.{◌≡◌, ℕ, zero, suc, ◌+◌, ◌*◌, ◌<◌, ◌≤◌, Bool, true, false, cond, List, [], ◌∷◌, ◌++◌, length, refl, sym, ◌∙◌, ap, subst, arith, length-append}
+use Rattle.std.specs.Prelude.{nat_lt, None, Option, Some}
 use Rattle.std.specs.List.{AllByRecursion, fold}
 use Rattle.rand_pcg.specs.Lcg.{Lcg}
 use Rattle.pr_script.specs.declared.command.Command.{Command}
@@ -10,6 +10,8 @@ use Rattle.pr_script.specs.Good.{AreGoodSteps, IsGood, IsGoodCommand}
 use Rattle.pr_script.specs.Known.{attached_after, has_number, is_read, turns_after, with_number}
 use Rattle.pr_script.specs.Labels.{count_of}
 use Rattle.pr_script.specs.Steps.{AreWhole, Numbered, Step, Alone, is_phase, steps_from, steps_of}
+use Rattle.pr_story.specs.History.{NodeEntry}
+use Rattle.pr_text.specs.Histories.{first_of, is_unmet, unmet_from}
 use Rattle.pr_gen.specs.Draws.{below, seeded}
 use Rattle.pr_gen.specs.Topology.{declared, each}
 use Rattle.pr_gen.specs.Workload as workload
@@ -22,6 +24,7 @@ use Rattle.pr_gen.proofs.Words.{below_range, text_is_short}
 
 pub record IsPlain (c : Command) : Type 0 where
   pub alone : is_phase c ≡ false
+  pub silent : (es : List NodeEntry) → is_unmet c es ≡ false
   pub turns : (was : ℕ) → turns_after c was ≤ was + 4
 
 numbered_plain : (line : ℕ) (cs : List Command) → AllByRecursion IsPlain cs → AllByRecursion (λ (c : Numbered). IsPlain c.1) (numbered line cs)
@@ -87,14 +90,14 @@ unfolding workload.write
 write_is g =
     let n = below_range 8 g (omega arith) in
     let k = clients in
-    record { plain = record { alone = refl; turns = λ was. omega arith }; good = λ after_read. (omega (arith, n, k), text_is_short _); stays = refl }
+    record { plain = record { alone = refl; silent = λ es. refl; turns = λ was. omega arith }; good = λ after_read. (omega (arith, n, k), text_is_short _); stays = refl }
 
 read_is : (g : Lcg) → IsStep (workload.read g).0
 unfolding workload.read
 read_is g =
     let n = below_range 8 g (omega arith) in
     let k = clients in
-    record { plain = record { alone = refl; turns = λ was. omega arith }; good = λ after_read. omega (arith, n, k); stays = refl }
+    record { plain = record { alone = refl; silent = λ es. refl; turns = λ was. omega arith }; good = λ after_read. omega (arith, n, k); stays = refl }
 
 flow_is : (g : Lcg) → IsStep (workload.flow g).0
 unfolding workload.flow
@@ -103,7 +106,7 @@ flow_is g =
     let m = below_range 4 (below 16 g).1 (omega arith) in
     let k = streams in
     record {
-      plain = record { alone = refl; turns = λ was. omega (arith, m) };
+      plain = record { alone = refl; silent = λ es. refl; turns = λ was. omega (arith, m) };
       good = λ after_read. ((omega (arith, n, k), is_attached (below 16 g).0 n), omega arith, omega (arith, m));
       stays = refl;
     }
@@ -113,7 +116,7 @@ unfolding workload.attach
 attach_is g =
     let n = below_range 16 g (omega arith) in
     let k = streams in
-    record { plain = record { alone = refl; turns = λ was. omega arith }; good = λ after_read. omega (arith, n, k); stays = attached_stays (below 16 g).0 n }
+    record { plain = record { alone = refl; silent = λ es. refl; turns = λ was. omega arith }; good = λ after_read. omega (arith, n, k); stays = attached_stays (below 16 g).0 n }
 
 one_of : (a b c : Bool) (g : Lcg) → IsStep ((cond a workload.write (cond b workload.read (cond c workload.flow workload.attach))) g).0
 one_of true b c g = write_is g
@@ -165,10 +168,10 @@ attached_good line cs rest =
     (stream 0 (omega arith), (stream 1 (omega arith), (stream 2 (omega arith), (stream 3 (omega arith), (stream 4 (omega arith), (stream 5 (omega arith), (stream 6 (omega arith), (stream 7 (omega arith), (stream 8 (omega arith), (stream 9 (omega arith), (stream 10 (omega arith), (stream 11 (omega arith), (stream 12 (omega arith), (stream 13 (omega arith), (stream 14 (omega arith), (stream 15 (omega arith), rest _))))))))))))))))
 
 pub attach_plain : (n : ℕ) → IsPlain (commands.Attach n)
-attach_plain n = record { alone = refl; turns = λ was. omega arith }
+attach_plain n = record { alone = refl; silent = λ es. refl; turns = λ was. omega arith }
 
 pub settle_plain : IsPlain commands.Settle
-settle_plain = record { alone = refl; turns = λ was. omega arith }
+settle_plain = record { alone = refl; silent = λ es. refl; turns = λ was. omega arith }
 
 all_plain : (seed size : ℕ) → AllByRecursion IsPlain (workload.commands seed size)
 all_plain seed size =
@@ -197,3 +200,15 @@ good seed size h =
       steps = attached_good line (drawn seed size) (λ l. drawn_good size (seeded seed) l false);
       turns = omega (arith, turns, len, count, h);
     }
+
+-- ---- no expectation
+
+none_unmet : (cs : List Numbered) → AllByRecursion (λ (c : Numbered). IsPlain c.1) cs → (es : List NodeEntry) (parts : List (List NodeEntry)) → unmet_from es (steps_of cs) parts ≡ None
+none_unmet [] h es parts = subst (λ (steps : List Step). unmet_from es steps parts ≡ None) (sym none_of) refl
+none_unmet (c ∷ cs) h es [] = subst (λ (steps : List Step). unmet_from es steps [] ≡ None) (sym (next_alone c cs h.0.alone)) refl
+none_unmet (c ∷ cs) h es (part ∷ parts) =
+    subst (λ (steps : List Step). unmet_from es steps (part ∷ parts) ≡ None) (sym (next_alone c cs h.0.alone))
+    (ap (λ (b : Bool). first_of (cond b (Some c.0) None) (unmet_from part (steps_of cs) parts)) (h.0.silent es) ∙ none_unmet cs h.1 part parts)
+
+pub nothing_unmet : (seed size : ℕ) (es : List NodeEntry) (parts : List (List NodeEntry)) → unmet_from es (steps_of (workload.workload seed size).commands) parts ≡ None
+nothing_unmet seed size es parts = none_unmet (numbered (length declared + 1) (workload.commands seed size)) (numbered_plain (length declared + 1) (workload.commands seed size) (all_plain seed size)) es parts

@@ -4,7 +4,10 @@ ghost use Rattle.pr_script.specs.Good.{IsGood};
 ghost use Rattle.pr_script.specs.Labels.{AreLabels};
 ghost use Rattle.pr_script.specs.Printing.{script_text};
 ghost use Rattle.pr_script.specs.Reading.{Means};
-ghost use Rattle.std.specs.Prelude.{◌≤◌, ℕ, Ok};
+ghost use Rattle.pr_script.specs.Steps.{steps_of};
+ghost use Rattle.pr_story.specs.History.{NodeEntry};
+ghost use Rattle.pr_text.specs.Histories.{unmet_from};
+ghost use Rattle.std.specs.Prelude.{◌≡◌, ◌≤◌, ℕ, List, None, Ok};
 
 /// Each workload of at most 90,000 steps is good for a run, as each accepted script is.
 pub fn workloads_are_good()
@@ -19,4 +22,9 @@ pub fn labels_tell_declarations_apart()
 /// What a workload is printed as is read as that workload, to the numbers of its lines.
 pub fn printed_workloads_read_back()
     ensures { (seed size : ℕ) → size ≤ 90000 → Means (script_text (workload seed size)) (Ok (workload seed size)) }
+{}
+
+/// A workload expects nothing: whatever its steps give, no expectation of it is not met.
+pub fn workloads_expect_nothing()
+    ensures { (seed size : ℕ) (es : List NodeEntry) (parts : List (List NodeEntry)) → unmet_from es (steps_of (workload seed size).commands) parts ≡ None }
 {}

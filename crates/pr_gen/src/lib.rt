@@ -13,6 +13,9 @@ mod tests;
 mod topology;
 
 pub use counted::Counted;
-pub use law::{labels_tell_declarations_apart, printed_workloads_read_back, workloads_are_good};
+pub use law::{
+    labels_tell_declarations_apart, printed_workloads_read_back, workloads_are_good,
+    workloads_expect_nothing,
+};
 pub use making::script;
 pub use summing::summary;

@@ -7,3 +7,4 @@ pub mod Promised
 pub mod Written
 pub mod Lines
 pub mod Runs
+pub mod Generated

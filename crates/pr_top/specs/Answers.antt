@@ -1,20 +1,17 @@
 -- When the answers of the top call come, and what each leaves.
-use Rattle.std.specs.Prelude.{◌≡◌, ◌⊎◌, ℕ, List, Option, Some, None, IfSome, codes}
+use Rattle.std.specs.Prelude.{◌≡◌, ◌⊎◌, ◌≤◌, ◌<◌, ℕ, List, Option, Some, None, IfSome, codes}
 use Rattle.pr_ports.specs.Faults.{HasRisen}
+use Rattle.pr_gen.specs.Workload.{workload}
 use Rattle.pr_script.specs.declared.script.Script.{Script}
 use Rattle.pr_text.specs.Endings.{bad_cause, error_line}
 use Rattle.pr_words.specs.declared.job.Job.{Job}
 use Rattle.pr_words.specs.declared.job.Job.TheVariants as jobs
 use Rattle.pr_top.specs.Reading.{HasBadLine, HasScript}
+use Rattle.pr_top.specs.Generated.{HasGenerated}
 use Rattle.pr_top.specs.Runs.{HasRun, WritesLine}
 use Rattle.pr_top.specs.Sizes.{IsTooLarge}
 use Rattle.pr_top.specs.declared.status.Status.{Status}
 use Rattle.pr_top.specs.declared.status.Status.TheVariants as status
-
--- the words ask for a job that is done here: a script in one thread
-abbrev pub IsAskedFor : Option Job → Type 0
-IsAskedFor (Some jobs.Sim) = Unit {0}
-IsAskedFor _ = ⊥
 
 -- the source and the sink at some moment: the bytes that are left and those that were written, where they are told, and
 -- the counts of faults
@@ -34,7 +31,6 @@ ports_of left read_faults text write_faults source sink = record {
 
 -- the line that alone is written where there is no run
 abbrev pub fault_line : Status → Option (List ℕ)
-fault_line status.Usage = Some (error_line (codes "usage"))
 fault_line (status.BadScript line why) = Some (error_line (bad_cause line why))
 fault_line status.ReadFault = Some (error_line (codes "read"))
 fault_line status.TooLarge = Some (error_line (codes "too large"))
@@ -54,11 +50,19 @@ abbrev pub RunsScript : Ports → Ports → Status → Type 0
 RunsScript a b result =
     (s : Script) × HasScript a.left b.left s × HasRun result s (HasRisen a.write_faults b.write_faults) a.text b.text
 
--- the call's answer, where the words are accepted or not
-pub record Answers (accepted : Type 0) (a b : Ports) (result : Status) : Type 0 where
-  -- Usage comes just where the words are not accepted, unless memory ran out
-  pub usage : result ≡ status.Usage → ¬ accepted
-  pub refused : ¬ accepted → (result ≡ status.Usage) ⊎ (result ≡ status.NoMemory)
+-- the line alone was written
+abbrev pub Writes : Ports → Ports → List ℕ → Type 0
+Writes a b line = WritesLine (HasRisen a.write_faults b.write_faults) line a.text b.text
+
+-- the answer to words that are not accepted, unless memory ran out
+abbrev pub IsUnaccepted : Ports → Ports → Status → Type 0
+IsUnaccepted a b status.Usage = Writes a b (error_line (codes "usage"))
+IsUnaccepted a b status.NoMemory = Writes a b (error_line (codes "no memory"))
+IsUnaccepted a b _ = ⊥
+
+-- the answer where a script is to be read and run
+pub record AnswersScript (a b : Ports) (result : Status) : Type 0 where
+  pub accepted : result ≡ status.Usage → ⊥
   -- a fault only where the object's own count rose
   pub read_fault : result ≡ status.ReadFault → HasRisen a.read_faults b.read_faults
   pub write_fault : result ≡ status.WriteFault → HasRisen a.write_faults b.write_faults
@@ -66,11 +70,24 @@ pub record Answers (accepted : Type 0) (a b : Ports) (result : Status) : Type 0 
   pub too_large : result ≡ status.TooLarge → IfSome a.left IsTooLarge
   pub bad_script : (line why : ℕ) → result ≡ status.BadScript line why → HasBadLine a.left b.left line why
   -- where there is no run, the fault's line alone is written
-  pub fault : IfSome (fault_line result) (λ line. WritesLine (HasRisen a.write_faults b.write_faults) line a.text b.text)
+  pub fault : IfSome (fault_line result) (λ line. Writes a b line)
   -- where there is one, the script was read to its end, and the transcript is as the headline says
   pub run : IsOfRun result → RunsScript a b result
-  pub no_memory : result ≡ status.NoMemory
-      → RunsScript a b result ⊎ WritesLine (HasRisen a.write_faults b.write_faults) (error_line (codes "no memory")) a.text b.text
+  pub no_memory : result ≡ status.NoMemory → RunsScript a b result ⊎ Writes a b (error_line (codes "no memory"))
+
+-- the answer where a script is generated and run: nothing is read, and the summary is that of a history as the headline
+-- says; or memory ran out before there was a run
+pub record AnswersGenerated (s : Script) (a b : Ports) (result : Status) : Type 0 where
+  pub unread : (b.left ≡ a.left) × (b.read_faults ≡ a.read_faults)
+  pub run : HasGenerated result s (HasRisen a.write_faults b.write_faults) a.text b.text
+      ⊎ ((result ≡ status.NoMemory) × Writes a b (error_line (codes "no memory")))
+
+-- the call's answer, by the job that the words ask for
+abbrev pub Answers : Option Job → Ports → Ports → Status → Type 0
+Answers (Some jobs.Sim) a b result = AnswersScript a b result
+Answers (Some (jobs.Gen seed size)) a b result =
+    (size ≤ 90000 → AnswersGenerated (workload seed size) a b result) × (90000 < size → IsUnaccepted a b result)
+Answers _ a b result = IsUnaccepted a b result
 
 -- the exit status of a process
 abbrev pub number_of : Status → ℕ

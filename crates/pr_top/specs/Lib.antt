@@ -4,4 +4,5 @@ pub mod Runs
 pub mod Reading
 pub mod Progress
 pub mod Stopping
+pub mod Generated
 pub mod Answers

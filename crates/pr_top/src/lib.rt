@@ -1,6 +1,7 @@
 //! The top call: a script is read, run, and told as a transcript.
 #![tactic(auto)]
 
+mod generating;
 mod reading;
 mod running;
 mod size;

@@ -163,7 +163,8 @@ fn to_tell(alloc: Global, line: Option<u64>) -> Result<Option<Expected>, NoMemor
     }
 }
 
-fn write<K: Sink>(out: &mut K, text: &[u8]) -> Result<(), Halt>
+/// Writes a text; a sink that fails ends the run.
+pub fn write<K: Sink>(out: &mut K, text: &[u8]) -> Result<(), Halt>
     ensures fault { IfErr result (λ halt. halt ≡ halts.WriteFault) }
     ensures told { Writes text.now (HasRisen (K.faults out.old) (K.faults out.new)) (K.text out.old) (K.text out.new) result }
     ensures rises { K.faults out.old ≤ K.faults out.new }

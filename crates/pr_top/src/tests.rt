@@ -104,10 +104,83 @@ fn an_expectation_that_is_not_met(rt: HostRuntime) -> Result<(), Fail> {
     Ok(())
 }
 
+// The summaries of two small workloads.
+const SEED_SEVEN: &[u8] = b"writes 4\n\
+    reads 0\n\
+    values 0\n\
+    nevers 0\n\
+    imprecises 0\n\
+    bodies 0\n\
+    attaches 32\n\
+    precise 11\n\
+    imprecise 24\n\
+    body 3\n\
+    checkpoint 0\n\
+    accepts 38\n\
+    gaps 0\n\
+    idles 50\n\
+    stales 0\n\
+    downs 0\n\
+    vector N0 N0:1,N2:1,N4:1,N6:1\n\
+    vector N1 N0:1,N2:1,N4:1,N6:1\n\
+    vector N2 N0:1,N2:1,N4:1,N6:1\n\
+    vector N3 N0:1,N2:1,N4:1,N6:1\n\
+    vector N4 N0:1,N2:1,N4:1,N6:1\n\
+    vector N5 N0:1,N2:1,N4:1,N6:1\n\
+    vector N6 N0:1,N2:1,N4:1,N6:1\n\
+    vector N7 N0:1,N2:1,N4:1,N6:1\n\
+    ok 162\n";
+
+const SEED_ZERO: &[u8] = b"writes 33\n\
+    reads 12\n\
+    values 0\n\
+    nevers 11\n\
+    imprecises 1\n\
+    bodies 0\n\
+    attaches 34\n\
+    precise 89\n\
+    imprecise 71\n\
+    body 21\n\
+    checkpoint 0\n\
+    accepts 181\n\
+    gaps 0\n\
+    idles 69\n\
+    stales 0\n\
+    downs 0\n\
+    vector N0 N0:5,N1:6,N2:5,N3:3,N4:6,N5:2,N6:2,N7:6\n\
+    vector N1 N0:5,N1:6,N2:5,N3:3,N4:6,N5:2,N6:2,N7:6\n\
+    vector N2 N0:5,N1:6,N2:5,N3:3,N4:6,N5:2,N6:2,N7:6\n\
+    vector N3 N0:5,N1:6,N2:5,N3:3,N4:6,N5:2,N6:2,N7:6\n\
+    vector N4 N0:5,N1:6,N2:5,N3:3,N4:6,N5:2,N6:2,N7:6\n\
+    vector N5 N0:5,N1:6,N2:5,N3:3,N4:6,N5:2,N6:2,N7:6\n\
+    vector N6 N0:5,N1:6,N2:5,N3:3,N4:6,N5:2,N6:2,N7:6\n\
+    vector N7 N0:5,N1:6,N2:5,N3:3,N4:6,N5:2,N6:2,N7:6\n\
+    ok 510\n";
+
+#[test]
+fn generated_scripts(rt: HostRuntime) -> Result<(), Fail> {
+    let alloc = rt.alloc();
+    let five = called(alloc, &["gen", "--seed", "7", "--size", "5"], FIRST, &SOUND)?;
+    assert!(rt; five.0 == 0 && five.1.as_slice() == SEED_SEVEN);
+    let sixty = called(alloc, &["--size=60", "--seed=0", "gen"], b"", &SOUND)?;
+    assert!(rt; sixty.0 == 0 && sixty.1.as_slice() == SEED_ZERO);
+    Ok(())
+}
+
 #[test]
 fn words_that_are_not_accepted(rt: HostRuntime) -> Result<(), Fail> {
     let alloc = rt.alloc();
-    let lists: [&[&str]; 4] = [&[], &["sim", "x"], &["gen"], &["sim", "--seed", "7"]];
+    let lists: [&[&str]; 9] = [
+        &[],
+        &["sim", "x"],
+        &["run"],
+        &["gen"],
+        &["gen", "--seed", "7"],
+        &["sim", "--seed", "7"],
+        &["gen", "--seed", "07", "--size", "5"],
+        &["gen", "--seed", "7", "--size", "0"],
+        &["gen", "--seed", "7", "--size", "90001"],
+    ];
     for words in lists {
         let (status, text) = called(alloc, words, b"", &SOUND)?;
         assert_eq!(rt; status, 1);

@@ -1,12 +1,13 @@
 // The top call.
 ghost use Rattle.pr_ports.specs.Faults.{HasRisen};
 ghost use Rattle.pr_text.specs.Endings.{bad_cause, error_line};
-ghost use Rattle.pr_top.specs.Answers.{Answers, IsAskedFor, ports_of};
+ghost use Rattle.pr_top.specs.Answers.{Answers, AnswersScript, ports_of};
 ghost use Rattle.pr_top.specs.Runs.{WritesLine};
 ghost use Rattle.pr_words.specs.Words.{job_of};
 ghost use Rattle.std.specs.Prelude.{◌≡◌, ◌⊎◌, Some, codes, map, string_bytes};
 
 use crate::Status;
+use crate::generating::generate;
 use crate::reading::{ReadError, read_script};
 use crate::running::run;
 use crate::telling::tell;
@@ -17,13 +18,15 @@ use pr_wires::Wires;
 use pr_words::{Job, WordsFault};
 use std::alloc::Global;
 
-const USAGE: &[u8] = b"error usage\n";
+/// The most steps of a generated script.
+const MOST: u64 = 90_000;
 
 /// Does what the words ask for, and answers how it ended. The words lack the program's own name.
 ///
 /// `sim` reads a script (docs/SCRIPT.md), runs it in one thread and writes its transcript (docs/TRANSCRIPT.md), each line
 /// as it comes. Reading takes time linear in the script's bytes and keeps its commands; the run takes the time of the
-/// nodes' calls and keeps their journals.
+/// nodes' calls and keeps their journals. `gen` reads nothing, runs the generated script of its seed and size, and writes
+/// the summary of the run.
 pub fn practi<S: Source, K: Sink, W: Wires>(
     alloc: Global,
     words: &[String],
@@ -31,29 +34,38 @@ pub fn practi<S: Source, K: Sink, W: Wires>(
     out: &mut K,
     wires: &mut W,
 ) -> Status
-    ensures { Answers (IsAskedFor (job_of (map string_bytes words.now))) (ports_of S.left S.faults K.text K.faults script.old out.old) (ports_of S.left S.faults K.text K.faults script.new out.new) result }
+    ensures { Answers (job_of (map string_bytes words.now)) (ports_of S.left S.faults K.text K.faults script.old out.old) (ports_of S.left S.faults K.text K.faults script.new out.new) result }
 {
     let _ = wires;
     match pr_words::read(alloc, words) {
         Ok(job) => alone(alloc, &job, script, out),
-        Err(WordsFault::Usage) => tell(out, Status::Usage, USAGE),
+        Err(WordsFault::Usage) => usage(out),
         Err(WordsFault::NoMemory) => no_memory(out),
     }
 }
 
 /// Does the whole of a job in one thread, as `practi` does.
 pub fn alone<S: Source, K: Sink>(alloc: Global, job: &Job, script: &mut S, out: &mut K) -> Status
-    ensures { Answers (IsAskedFor (Some job.now)) (ports_of S.left S.faults K.text K.faults script.old out.old) (ports_of S.left S.faults K.text K.faults script.new out.new) result }
+    ensures { Answers (Some job.now) (ports_of S.left S.faults K.text K.faults script.old out.old) (ports_of S.left S.faults K.text K.faults script.new out.new) result }
 {
     match job {
         Job::Sim => sim(alloc, script, out),
-        _ => tell(out, Status::Usage, USAGE),
+        Job::Gen { seed, size } if *size <= MOST => generate(alloc, *seed, *size, out),
+        _ => usage(out),
     }
+}
+
+// Answers words that are not accepted.
+fn usage<K: Sink>(out: &mut K) -> Status
+    ensures status { result ≡ Status.Usage }
+    ensures line { WritesLine (HasRisen (K.faults out.old) (K.faults out.new)) (error_line (codes "usage")) (K.text out.old) (K.text out.new) }
+{
+    tell(out, Status::Usage, b"error usage\n")
 }
 
 // Reads a script and runs it.
 fn sim<S: Source, K: Sink>(alloc: Global, script: &mut S, out: &mut K) -> Status
-    ensures { Answers (Unit {0}) (ports_of S.left S.faults K.text K.faults script.old out.old) (ports_of S.left S.faults K.text K.faults script.new out.new) result }
+    ensures { AnswersScript (ports_of S.left S.faults K.text K.faults script.old out.old) (ports_of S.left S.faults K.text K.faults script.new out.new) result }
 {
     match read_script(alloc, script) {
         Ok(script) => run(alloc, &script, out),

@@ -1,0 +1,69 @@
+use Rattle.std.proofs.Common.{◌≡◌, ◌++◌, ◌∙◌, Err, List, Result, ap, subst, sym, ℕ}
+use Rattle.std.proofs.lemmas.Result.{err_from_is_err_and}
+use Rattle.pr_script.specs.declared.script.Script.{Script}
+use Rattle.pr_top.specs.Generated.{HasSummed}
+use Rattle.pr_top.specs.Progress.{HasCome}
+use Rattle.pr_top.specs.declared.stepping.Halt.{Halt}
+use Rattle.pr_top.specs.declared.stepping.Halt.TheVariants as halts
+use Rattle.pr_gen.specs.Summary.{summary_text}
+use Rattle.pr_gen.specs.Workload.{workload}
+use Rattle.pr_top.proofs.Coming.{start}
+use Rattle.pr_top.proofs.Generated.{all_summed, ended_stops, has_history, nodes_are, nothing_summed, stopped_summed}
+use Rattle.pr_top.proofs.generating.summed.Goals as goal
+
+pub returns-in_err-script : goal.returns-in_err-script
+returns-in_err-script c =
+    let p = err_from_is_err_and c.from_residual.result c.from_residual.ensures.1 in
+    let is = p.1 in
+    let same = p.2 in
+    let done : c.from_residual.result ≡ Err halts.NoMemory = cc in
+    subst (λ (r : Result (List ℕ) Halt). HasSummed (workload c.args.seed c.args.size) r) (sym done) (nothing_summed (workload c.args.seed c.args.size))
+
+pub returns-in_err-engine : goal.returns-in_err-engine
+returns-in_err-engine c =
+    let p = err_from_is_err_and c.from_residual-in_err-engine.result c.from_residual-in_err-engine.ensures.1 in
+    let is = p.1 in
+    let same = p.2 in
+    let done : c.from_residual-in_err-engine.result ≡ Err halts.NoMemory = cc in
+    subst (λ (r : Result (List ℕ) Halt). HasSummed (workload c.args.seed c.args.size) r) (sym done) (nothing_summed (workload c.args.seed c.args.size))
+
+pub run_all-requires : goal.run_all-requires
+run_all-requires c = start c.in_ok-script.script c.in_ok-engine.engine c.in_ok-script.ensures.good c.in_ok-engine.ensures
+
+pub returns-in_err-run_all : goal.returns-in_err-run_all
+returns-in_err-run_all c =
+    let p = err_from_is_err_and c.from_residual-in_err-run_all.result c.from_residual-in_err-run_all.ensures.1 in
+    let same = p.2 in
+    let is = p.1 in
+    let done : c.from_residual-in_err-run_all.result ≡ Err c.in_err-run_all.field-0.0 = cc in
+    subst (λ (r : Result (List ℕ) Halt). HasSummed (workload c.args.seed c.args.size) r) (sym done)
+    (subst (λ (s : Script). HasSummed s (Err c.in_err-run_all.field-0.0)) c.in_ok-script.ensures.script
+    (stopped_summed c.in_ok-script.script c.run_all.new.run.engine c.in_err-run_all.field-0.0 c.in_err-run_all.ensures))
+
+pub summary-requires : goal.summary-requires
+summary-requires c =
+    let k = c.in_ok-run_all.ensures in
+    let n = nodes_are c.in_ok-script.script.decls.list k.1.attached k.0 c.run_all.new.run.engine k.1.running in
+    (k.0, has_history _ k.1.attached k.0 c.run_all.new.run.engine k.1.running, n.0, n.1)
+
+pub returns-in_err-summary : goal.returns-in_err-summary
+returns-in_err-summary c =
+    let p = err_from_is_err_and c.from_residual-in_err-summary.result c.from_residual-in_err-summary.ensures.1 in
+    let is = p.1 in
+    let same = p.2 in
+    let done : c.from_residual-in_err-summary.result ≡ Err halts.NoMemory = cc in
+    subst (λ (r : Result (List ℕ) Halt). HasSummed (workload c.args.seed c.args.size) r) (sym done)
+    (subst (λ (s : Script). HasSummed s (Err halts.NoMemory)) c.in_ok-script.ensures.script
+    (ended_stops c.in_ok-script.script c.run_all.new.run.engine c.run_all.new.run.unmet c.in_ok-run_all.ensures))
+
+pub returns : goal.returns
+returns c =
+    let k = c.in_ok-run_all.ensures in
+    let h = k.0 in
+    let s_is = c.in_ok-script.ensures.script in
+    let held = has_history _ k.1.attached h c.run_all.new.run.engine k.1.running in
+    let ds = c.in_ok-script.script.decls.list in
+    let told = c.in_ok-summary.ensures h held ∙ ap (λ (t : List ℕ). t ++ summary_text ds h) c.new-text.ensures ∙ ap (λ (s : Script). summary_text s.decls.list h) s_is in
+    all_summed c.args.seed c.args.size c.run_all.new.run.engine c.run_all.new.run.unmet c.summary.new.out h
+    (subst (λ (s : Script). HasCome s _ h c.run_all.new.run.engine c.run_all.new.run.unmet) s_is k.1)
+    told
