@@ -1,0 +1,5 @@
+pub mod FieldLoops
+pub mod Cuts
+pub mod Numbers
+pub mod PartLoops
+pub mod VectorLoops

@@ -1,0 +1,5 @@
+pub mod Said
+pub mod Lines
+pub mod Fields
+pub mod Parts
+pub mod Events
