@@ -3,3 +3,8 @@ pub mod Cuts
 pub mod Numbers
 pub mod PartLoops
 pub mod VectorLoops
+pub mod FieldsAgain
+pub mod PartsAgain
+pub mod StampsAgain
+pub mod VectorsAgain
+pub mod LineRead

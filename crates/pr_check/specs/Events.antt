@@ -25,15 +25,45 @@ use Rattle.pr_check.specs.declared.told.Told.{Told}
 use Rattle.pr_check.specs.Fields.{◌>>=◌, behind, field_at, items_of, parts}
 use Rattle.pr_check.specs.Parts.{pairs_of, prev_of, rows_of, set_of, stamp_of, vector_of}
 
+-- ---- what names no declaration
+
+-- a message that tells nothing from here on
+abbrev pub empty_from : List ℕ → Kind
+empty_from from = Imprecise from zero_vector []
+
+abbrev pub msg_with : ℕ → ℕ → Kind → Msg
+msg_with stream number kind = record { time = 0; stream = stream; number = number; kind = kind }
+
+-- how many fields an answer has
+abbrev pub width_of : Reply → ℕ
+width_of replies.Never = 1
+width_of (replies.Value stamp bytes) = 3
+width_of (replies.Imprecise untold) = 2
+width_of (replies.Body stamp) = 2
+width_of (replies.Gone stamp) = 2
+
+abbrev pub cause_of : List ℕ → Option Cause
+cause_of word =
+    cond (bytes_eq word (codes "failed")) (Some causes.Failed) (
+    cond (bytes_eq word (codes "ended")) (Some causes.Ended) (
+    cond (bytes_eq word (codes "gap")) (Some causes.Gap) None))
+
+abbrev pub count_at : ℕ → List ℕ → Option ℕ
+count_at n line = number_in 0 18446744073709551615 (field_at n line)
+
+-- of one set at least
+abbrev pub state_with : List ℕ → List ℕ → List ℕ → List (List ℕ) → Option Event
+state_with at cut floor [] = None
+state_with at cut floor (v ∷ vs) = Some (State at cut floor (v ∷ vs))
+
+unfoldable pub dropped_of : List ℕ → Option Event
+dropped_of line = name_of (field_at 2 line) >>= λ name. Some (Dropped name)
+
+abbrev pub placed : ℕ → Option Event → Option Told
+placed n read = read >>= λ event. Some (record { node = n; event = event })
+
 module _ (ds : List Decl) where
   -- ---- messages
-
-  -- a message that tells nothing from here on
-  abbrev pub empty_from : List ℕ → Kind
-  empty_from from = Imprecise from zero_vector []
-
-  abbrev pub msg_with : ℕ → ℕ → Kind → Msg
-  msg_with stream number kind = record { time = 0; stream = stream; number = number; kind = kind }
 
   unfoldable pub precise_of : Bool → List ℕ → Option Kind
   precise_of gone rest = do
@@ -94,24 +124,10 @@ module _ (ds : List Decl) where
       cond (bytes_eq word (codes "body")) (stamp_of ds (field_at 1 rest) >>= λ p. Some (replies.Body p)) (
       cond (bytes_eq word (codes "gone")) (stamp_of ds (field_at 1 rest) >>= λ p. Some (replies.Gone p)) None))))
 
-  -- how many fields an answer has
-  abbrev pub width_of : Reply → ℕ
-  width_of replies.Never = 1
-  width_of (replies.Value stamp bytes) = 3
-  width_of (replies.Imprecise untold) = 2
-  width_of (replies.Body stamp) = 2
-  width_of (replies.Gone stamp) = 2
-
   unfoldable pub found_of : List ℕ → Option Found
   found_of rest =
       cond (bytes_eq (field_at 0 rest) (codes "imprecise")) (stamp_of ds (field_at 1 rest) >>= λ p. Some (founds.Imprecise p))
       (pairs_of ds (field_at 0 rest) >>= λ pairs. Some (founds.Pairs pairs))
-
-  abbrev pub cause_of : List ℕ → Option Cause
-  cause_of word =
-      cond (bytes_eq word (codes "failed")) (Some causes.Failed) (
-      cond (bytes_eq word (codes "ended")) (Some causes.Ended) (
-      cond (bytes_eq word (codes "gap")) (Some causes.Gap) None))
 
   -- ---- events
 
@@ -123,9 +139,6 @@ module _ (ds : List Decl) where
 
   abbrev pub node_at : List ℕ → Option ℕ
   node_at line = number_among kinds.Node ds (field_at 1 line)
-
-  abbrev pub count_at : ℕ → List ℕ → Option ℕ
-  count_at n line = number_in 0 18446744073709551615 (field_at n line)
 
   -- a write's fields behind its text, or a delete's behind its name
   unfoldable pub wrote_with : Bool → List ℕ → List ℕ → List ℕ → Option Event
@@ -212,19 +225,11 @@ module _ (ds : List Decl) where
   unfoldable pub cut_of : List ℕ → Option Event
   cut_of line = vector_of ds (field_at 3 line) >>= λ at. Some (Cut at)
 
-  unfoldable pub dropped_of : List ℕ → Option Event
-  dropped_of line = name_of (field_at 2 line) >>= λ name. Some (Dropped name)
-
   unfoldable pub conflicts_of : List ℕ → Option Event
   conflicts_of line = do
     name ← name_of (field_at 2 line)
     found ← found_of (behind 3 line)
     Some (Conflicts name found)
-
-  -- of one set at least
-  abbrev pub state_with : List ℕ → List ℕ → List ℕ → List (List ℕ) → Option Event
-  state_with at cut floor [] = None
-  state_with at cut floor (v ∷ vs) = Some (State at cut floor (v ∷ vs))
 
   unfoldable pub state_of : List ℕ → Option Event
   state_of line = do
@@ -235,9 +240,6 @@ module _ (ds : List Decl) where
     state_with at cut floor precise
 
   -- ---- lines
-
-  abbrev pub placed : ℕ → Option Event → Option Told
-  placed n read = read >>= λ event. Some (record { node = n; event = event })
 
   unfoldable pub moved_of : List ℕ → Option Told
   moved_of line = do

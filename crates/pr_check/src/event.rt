@@ -31,7 +31,7 @@ pub fn told(alloc: Global, decls: &[Decl], line: &[u8]) -> Result<Told, Refusal>
 fn placed(decls: &[Decl], node: u32, event: Option<Event>) -> Result<Told, Refusal>
     requires node { Has decls.now kinds.Node node }
     requires tellable { IfSome event (IsTellable decls.now) }
-    ensures reads { Gives result (placed decls.now node event) }
+    ensures reads { Gives result (placed node event) }
     ensures told { IfOk result (λ told. IsTellableAt decls.now told.node told.event) }
 {
     match event {

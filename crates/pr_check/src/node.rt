@@ -1,5 +1,5 @@
 // The events of nodes.
-ghost use Rattle.pr_check.specs.Events.{conflicts_of, cut_of, dropped_of, node_at, state_of, state_with};
+ghost use Rattle.pr_check.specs.Events.{conflicts_of, cut_of, dropped_of, node_at, state_of};
 ghost use Rattle.pr_check.specs.Fields.{Gives};
 ghost use Rattle.pr_check.specs.Lines.{IsTellable};
 ghost use Rattle.pr_script.specs.Labels.{AreLabels};
@@ -37,7 +37,7 @@ pub fn cut(decls: &[Decl], line: &[u8]) -> Option<Event>
 
 #[tactic(auto, unfolding(crate::specs::Events::dropped_of))]
 pub fn dropped(decls: &[Decl], line: &[u8]) -> Option<Event>
-    ensures reads { result ≡ dropped_of decls.now line.now }
+    ensures reads { result ≡ dropped_of line.now }
     ensures tellable { IfSome result (IsTellable decls.now) }
 {
     let name = name(field_at(2, line))?;

@@ -3,7 +3,9 @@ ghost use Rattle.pr_check.specs.Events.{accepted_of, attached_of, cause_of, coun
 ghost use Rattle.pr_check.specs.Fields.{Gives};
 ghost use Rattle.pr_check.specs.Lines.{IsTellable};
 ghost use Rattle.pr_script.specs.Labels.{AreLabels};
-ghost use Rattle.pr_text.specs.Numbers.{Has};
+ghost use Rattle.pr_story.specs.Counts.{HasKind, HasVector};
+ghost use Rattle.pr_story.specs.Ranges.{IsKind};
+ghost use Rattle.pr_text.specs.Numbers.{Has, nodes_of};
 ghost use Rattle.pr_script.specs.declared.kind.Kind.TheVariants as kinds;
 ghost use Rattle.std.specs.Prelude.{◌≡◌, IfOk, IfSome};
 
@@ -11,7 +13,7 @@ use crate::field::{behind, field_at};
 use crate::message;
 use crate::part::number;
 use crate::refusal::Refusal;
-use crate::vector::vector;
+use crate::vector::{no_clocks, vector};
 use pr_inval::{Kind, Msg};
 use pr_script::{Decl, Kind as Of, number_within};
 use pr_sets::NameSet;
@@ -70,6 +72,7 @@ fn msg_with(stream: u32, number: u64, kind: Kind) -> Msg
     }
 }
 
+#[tactic(auto, unfolding(crate::specs::Events::idle_of))]
 pub fn idle(decls: &[Decl], line: &[u8]) -> Option<Event>
     requires { AreLabels decls.now }
     ensures reads { result ≡ idle_of decls.now line.now }
@@ -91,14 +94,17 @@ pub fn stale(decls: &[Decl], line: &[u8]) -> Option<Event>
 }
 
 // A message that tells nothing from here on.
-fn empty_from(alloc: Global, from: Vector) -> Kind
-    ensures { result ≡ empty_from from }
+fn empty_from(alloc: Global, decls: &[Decl], from: Vector) -> Kind
+    requires { HasVector (nodes_of decls.now) from }
+    ensures value { result ≡ empty_from from }
+    ensures range { IsKind result }
+    ensures declared { HasKind (nodes_of decls.now) result }
 {
-    Kind::Imprecise {
-        from,
-        to: Vector::zero(),
-        target: NameSet::empty(alloc),
-    }
+    let _ = from.at(0);
+    let to = no_clocks(decls);
+    let target = NameSet::empty(alloc);
+    let _ = target.parts();
+    Kind::Imprecise { from, to, target }
 }
 
 #[tactic(auto, unfolding(crate::specs::Events::accepted_of))]
@@ -110,7 +116,7 @@ pub fn accepted(alloc: Global, decls: &[Decl], line: &[u8]) -> Option<Event>
     let stream = stream_at(decls, line)?;
     let number = count_at(line)?;
     let at = vector(decls, field_at(4, line))?;
-    let msg = msg_with(stream, number, empty_from(alloc, Vector::zero()));
+    let msg = msg_with(stream, number, empty_from(alloc, decls, no_clocks(decls)));
     Some(Event::Accepted { msg, at })
 }
 
@@ -124,7 +130,7 @@ pub fn gapped(alloc: Global, decls: &[Decl], line: &[u8]) -> Option<Event>
     let number = count_at(line)?;
     let from = vector(decls, field_at(4, line))?;
     let has = vector(decls, field_at(6, line))?;
-    let msg = msg_with(stream, number, empty_from(alloc, from));
+    let msg = msg_with(stream, number, empty_from(alloc, decls, from));
     Some(Event::Gapped { msg, has })
 }
 

@@ -29,7 +29,8 @@ pub fn vector(decls: &[Decl], bytes: &[u8]) -> Option<Vector>
     clocks(decls, bytes)
 }
 
-fn no_clocks(decls: &[Decl]) -> Vector
+/// The zero vector.
+pub fn no_clocks(decls: &[Decl]) -> Vector
     ensures zero { result ≡ zero_vector }
     ensures range { IsVector result }
     ensures declared { HasVector (nodes_of decls.now) result }

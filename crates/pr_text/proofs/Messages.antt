@@ -95,10 +95,10 @@ module _ (ds : List Decl) (a : AreLabels ds) where
   row_in : (r : Row) → IsRow r → HasRow (nodes_of ds) r → IsRowIn ds a r
   row_in r i h = (i.0, (i.1, h.0), all_both MarkRange (HasMark (nodes_of ds)) (IsMarkIn ds a) mark_in r.marks i.2 h.1)
 
-  rows_in : (rows : List Row) → All IsRow rows → All (HasRow (nodes_of ds)) rows → All (IsRowIn ds a) rows
+  pub rows_in : (rows : List Row) → All IsRow rows → All (HasRow (nodes_of ds)) rows → All (IsRowIn ds a) rows
   rows_in rows i h = all_both IsRow (HasRow (nodes_of ds)) (IsRowIn ds a) row_in rows i h
 
-  pairs_in : (ps : List (Point × Point)) → All (λ (p : Point × Point). IsStamp p.0 × IsStamp p.1) ps → All (λ (p : Point × Point). HasPair (nodes_of ds) p) ps → All (IsPairIn ds a) ps
+  pub pairs_in : (ps : List (Point × Point)) → All (λ (p : Point × Point). IsStamp p.0 × IsStamp p.1) ps → All (λ (p : Point × Point). HasPair (nodes_of ds) p) ps → All (IsPairIn ds a) ps
   pairs_in ps i h = all_both (λ (p : Point × Point). IsStamp p.0 × IsStamp p.1) (λ (p : Point × Point). HasPair (nodes_of ds) p) (IsPairIn ds a) (λ p r k. ((r.0, k.0), (r.1, k.1))) ps i h
 
   -- ---- closed fields
