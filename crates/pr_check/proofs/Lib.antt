@@ -7,4 +7,7 @@ pub mod FieldsAgain
 pub mod PartsAgain
 pub mod StampsAgain
 pub mod VectorsAgain
+pub mod RowsAgain
+pub mod ReadAgain
+pub mod KindsAgain
 pub mod LineRead

@@ -90,7 +90,7 @@ module _ (ds : List Decl) (a : AreLabels ds) (v : List ℕ) (i : IsVector v) whe
   clocks_again : (ls : List (List ℕ)) (w : ℕ) (u : List ℕ) → AreFrom w ls → w + length ls ≤ 32 → IsUpTo w u v → Reads (read_each (with_clock ds) u (clocks ls w v)) (w + length ls) v
   unfolding read_each
   clocks_again [] w u f most h = record { vector = u; is = refl; up_to = subst (λ (n : ℕ). IsUpTo n u v) (omega arith) h }
-  clocks_again (l ∷ ls) w u f most h = by (nat_eq (clock_of v w) 0) refl
+  clocks_again (l ∷ ls) w u f most h = by (λ z k. clocks_again ls (w + 1) z next (omega (arith, most)) k) (nat_eq (clock_of v w) 0) refl
     where
       lt : w < 32
       lt = omega (arith, most)
@@ -110,22 +110,16 @@ module _ (ds : List Decl) (a : AreLabels ds) (v : List ℕ) (i : IsVector v) whe
       ended : (o : Option (List ℕ)) → Reads o (w + 1 + length ls) v → Reads o (w + length (l ∷ ls)) v
       ended o r = subst (λ (n : ℕ). Reads o n v) end r
 
-      skip : clock_of v w ≡ 0 → Reads (read_each (with_clock ds) u (clocks ls (w + 1) v)) (w + 1 + length ls) v
-      skip e = clocks_again ls (w + 1) u next (omega (arith, most)) (goes_on w u v h e)
-
-      step : Reads (read_each (with_clock ds) (raised u p) (clocks ls (w + 1) v)) (w + 1 + length ls) v
-      step = clocks_again ls (w + 1) (raised u p) next (omega (arith, most)) (rises w u v lt h)
-
       read : 1 ≤ clock_of v w → with_clock ds u (clock_text l (clock_of v w)) ≡ Some (raised u p)
       read some = let q = here (omega arith) in ap (λ (t : List ℕ). with_clock ds u (clock_text t (clock_of v w))) q.1 ∙ clock_again u w q.0 lt some
 
-      by : (b : Bool) → nat_eq (clock_of v w) 0 ≡ b
+      by : ((z : List ℕ) → IsUpTo (w + 1) z v → Reads (read_each (with_clock ds) z (clocks ls (w + 1) v)) (w + 1 + length ls) v) → (b : Bool) → nat_eq (clock_of v w) 0 ≡ b
           → Reads (read_each (with_clock ds) u (cond b (clocks ls (w + 1) v) (clock_text l (clock_of v w) ∷ clocks ls (w + 1) v))) (w + length (l ∷ ls)) v
-      by true e = ended _ (skip (zero_if (clock_of v w) e))
-      by false e =
+      by later true e = ended _ (later u (goes_on w u v h (zero_if (clock_of v w) e)))
+      by later false e =
           let o : (with_clock ds u (clock_text l (clock_of v w)) >>= λ y. read_each (with_clock ds) y (clocks ls (w + 1) v)) ≡ read_each (with_clock ds) (raised u p) (clocks ls (w + 1) v) =
           ap (λ (r : Option (List ℕ)). r >>= λ y. read_each (with_clock ds) y (clocks ls (w + 1) v)) (read (some_if (clock_of v w) e)) in
-          ended _ (subst (λ (r : Option (List ℕ)). Reads r (w + 1 + length ls) v) (sym o) step)
+          ended _ (subst (λ (r : Option (List ℕ)). Reads r (w + 1 + length ls) v) (sym o) (later (raised u p) (rises w u v lt h)))
 
   pub vector_again : HasVector (nodes_of ds) v → vector_of ds (vector_text ds v) ≡ Some v
   unfolding vector_of read_each label_text

@@ -92,8 +92,11 @@ module _ (ds : List Decl) (a : AreLabels ds) where
   mark_in : (m : Mark) → MarkRange m → HasMark (nodes_of ds) m → IsMarkIn ds a m
   mark_in m r h = ((r.0, h.0), prev_is m.prev r.1 h.1)
 
+  pub marks_in : (ms : List Mark) → All (λ (m : Mark). IsStamp m.stamp × IsStampOrNone m.prev) ms → All (HasMark (nodes_of ds)) ms → All (IsMarkIn ds a) ms
+  marks_in ms i h = all_both MarkRange (HasMark (nodes_of ds)) (IsMarkIn ds a) mark_in ms i h
+
   row_in : (r : Row) → IsRow r → HasRow (nodes_of ds) r → IsRowIn ds a r
-  row_in r i h = (i.0, (i.1, h.0), all_both MarkRange (HasMark (nodes_of ds)) (IsMarkIn ds a) mark_in r.marks i.2 h.1)
+  row_in r i h = (i.0, (i.1, h.0), marks_in r.marks i.2 h.1)
 
   pub rows_in : (rows : List Row) → All IsRow rows → All (HasRow (nodes_of ds)) rows → All (IsRowIn ds a) rows
   rows_in rows i h = all_both IsRow (HasRow (nodes_of ds)) (IsRowIn ds a) row_in rows i h
