@@ -1,8 +1,8 @@
 -- The fields of a printed line are read again.
-use Rattle.std.proofs.Common.{◌≡◌, ℕ, zero, suc, Bool, true, false, inl, inr, List, [], ◌∷◌, ◌++◌, drop, get_or, refl, sym, ap, ◌∙◌, append_assoc, arith}
+use Rattle.std.proofs.Common.{◌≡◌, ℕ, zero, suc, true, false, inl, inr, List, [], ◌∷◌, ◌++◌, drop, get_or, refl, sym, ap, ◌∙◌, append_assoc, arith}
 use Rattle.std.proofs.lemmas.Bool.Decides.{nat_tests}
 use Rattle.pr_text.specs.Texts.{joined, more}
-use Rattle.pr_text.proofs.Cut.{Lacks, Plain, Quoted, is_not, is_plain}
+use Rattle.pr_text.proofs.Cut.{Lacks, Plain, is_not, is_plain}
 use Rattle.pr_text.proofs.Fields.{AllClosed, Closed}
 use Rattle.pr_check.specs.Fields.{behind, field_at, front_from, is_end, quoted_after, rest_from}
 

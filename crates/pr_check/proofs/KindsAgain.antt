@@ -1,25 +1,25 @@
 -- Printed messages and answers are read again.
-use Rattle.std.proofs.Common.{◌≡◌, ℕ, Bool, true, false, cond, List, [], ◌∷◌, ◌++◌, get_or, Option, Some, None, refl, sym, ap, ◌∙◌}
-use Rattle.std.specs.Prelude.{All, codes}
+use Rattle.std.proofs.Common.{◌≡◌, ℕ, Bool, true, false, cond, List, [], ◌++◌, get_or, Option, Some, None, refl, sym, ap, ◌∙◌}
+use Rattle.std.specs.Prelude.{codes}
 use Rattle.std.specs.Str.{bytes_eq}
-use Rattle.pr_stamps.specs.Point.{IsStamp, Point}
+use Rattle.pr_stamps.specs.Point.{Point}
 use Rattle.pr_inval.specs.declared.kind.Kind.{Kind}
 use Rattle.pr_inval.specs.declared.kind.Kind.TheVariants.{Precise, Imprecise, Checkpoint, Body}
 use Rattle.pr_inval.specs.declared.write_rec.WriteRec.{WriteRec}
 use Rattle.pr_script.specs.declared.decl.Decl.{Decl}
 use Rattle.pr_script.specs.Fields.{value_from}
 use Rattle.pr_script.specs.Labels.{AreLabels}
-use Rattle.pr_story.specs.Counts.{HasFound, HasKind, HasPair, HasReply}
+use Rattle.pr_story.specs.Counts.{HasFound, HasKind, HasReply}
 use Rattle.pr_story.specs.Ranges.{IsFinding, IsKind, IsReply}
 use Rattle.pr_story.specs.declared.found.Found.{Found}
 use Rattle.pr_story.specs.declared.found.Found.TheVariants as founds
 use Rattle.pr_story.specs.declared.reply.Reply.{Reply}
 use Rattle.pr_story.specs.declared.reply.Reply.TheVariants as replies
-use Rattle.pr_text.specs.Lines.{found_fields, kind_fields, reply_fields, span_fields, stamp_fields}
+use Rattle.pr_text.specs.Lines.{found_fields, kind_fields, reply_fields}
 use Rattle.pr_text.specs.Numbers.{nodes_of}
-use Rattle.pr_text.specs.Texts.{pairs_text, rows_text}
+use Rattle.pr_text.specs.Texts.{pairs_text}
 use Rattle.pr_check.specs.Events.{body_of, checkpoint_of, found_of, imprecise_of, kind_of, kind_with, precise_of, reply_with, value_of_read}
-use Rattle.pr_check.specs.Fields.{field_at, parts, read_each, ◌>>=◌}
+use Rattle.pr_check.specs.Fields.{field_at, parts, read_each}
 use Rattle.pr_check.specs.Parts.{pair_of, pairs_of, point_of, rows_of, stamp_of}
 use Rattle.pr_check.proofs.FieldsAgain.{HasFields}
 use Rattle.pr_check.proofs.PartsAgain.{other_bytes}

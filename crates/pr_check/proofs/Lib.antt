@@ -10,4 +10,5 @@ pub mod VectorsAgain
 pub mod RowsAgain
 pub mod ReadAgain
 pub mod KindsAgain
+pub mod EventsAgain
 pub mod LineRead

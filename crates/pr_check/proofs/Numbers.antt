@@ -1,15 +1,15 @@
 -- Labels are found by their numbers.
-use Rattle.std.proofs.Common.{◌≡◌, ℕ, ◌+◌, ◌<◌, ◌≤◌, ◌^◌, Bool, true, false, not, cond, List, [], ◌∷◌, length, map, get_or, Option, Some, None, refl, sym, ap, ◌∙◌, subst, arith}
+use Rattle.std.proofs.Common.{◌≡◌, ℕ, ◌<◌, Bool, true, false, cond, List, [], ◌∷◌, length, map, get_or, Some, None, refl, sym, arith}
 use Rattle.std.specs.Prelude.{nat_lt}
-use Rattle.std.specs.List.{AllByRecursion, filter, position, position_or_len}
+use Rattle.std.specs.List.{filter, position, position_or_len}
 use Rattle.std.specs.Str.{bytes_eq}
 use Rattle.std.proofs.lemmas.Bool.Decides.{nat_tests}
 use Rattle.std.proofs.lemmas.List.{length-map}
-use Rattle.std.proofs.lemmas.List.Sums.{fails_before_first, passes_at_first, position_or_len_is}
+use Rattle.std.proofs.lemmas.List.Sums.{position_or_len_is}
 use Rattle.std.proofs.lemmas.Slice.Eq.{bytes_eq-Decides}
 use Rattle.pr_script.specs.declared.decl.Decl.{Decl}
 use Rattle.pr_script.specs.declared.kind.Kind.{Kind}
-use Rattle.pr_script.specs.Labels.{AreLabels, is_kind, label_of, labels_of, most_of, number_among}
+use Rattle.pr_script.specs.Labels.{AreLabels, is_kind, label_of, labels_of, number_among}
 use Rattle.pr_script.specs.Printing.{label_text}
 use Rattle.pr_script.specs.declared.kind.Kind.TheVariants as kinds
 use Rattle.pr_text.specs.Numbers.{Has}
@@ -59,6 +59,6 @@ number_again k ds a n h =
     let ls = labels_of k ds in
     let l = get_or ls n [] in
     let at = position_or_len_is (bytes_eq l) ls n [] (omega (arith, h))
-        (λ m lt. other_bytes l (get_or ls m []) (λ e. let f : n ≡ m = label_same ds a k n m h (omega (arith, h, lt)) e in omega (arith, f, lt)))
-        (λ lt. own_bytes l) in
+    (λ m lt. other_bytes l (get_or ls m []) (λ e. let f : n ≡ m = label_same ds a k n m h (omega (arith, h, lt)) e in omega (arith, f, lt)))
+    (λ lt. own_bytes l) in
     placed (position_or_len (bytes_eq l) ls) n at (length ls) h

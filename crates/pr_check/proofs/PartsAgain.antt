@@ -1,5 +1,5 @@
 -- The parts of a printed field are read again.
-use Rattle.std.proofs.Common.{◌≡◌, ℕ, suc, ◌+◌, Bool, true, false, not, cond, List, [], ◌∷◌, ◌++◌, map, Option, Some, None, refl, sym, ap, ◌∙◌, append_assoc, arith}
+use Rattle.std.proofs.Common.{◌≡◌, ℕ, Bool, true, false, cond, List, [], ◌∷◌, ◌++◌, map, Option, Some, refl, sym, ap, ◌∙◌, append_assoc, arith}
 use Rattle.std.specs.Prelude.{All, ◌==◌}
 use Rattle.std.specs.List.{onto_first}
 use Rattle.std.specs.Str.{bytes_eq}
@@ -9,8 +9,8 @@ use Rattle.std.proofs.lemmas.List.Elements.{All-head, All-tail}
 use Rattle.std.proofs.lemmas.Slice.Eq.{bytes_eq-Decides}
 use Rattle.pr_text.specs.Texts.{joined, listed, more}
 use Rattle.pr_text.proofs.Cut.{Lacks, is_not}
-use Rattle.pr_text.proofs.Items.{AreItems, IsItem, no_hyphen}
-use Rattle.pr_check.specs.Fields.{items_of, listed_of, parts, read_each, with_next, ◌>>=◌}
+use Rattle.pr_text.proofs.Items.{AreItems, no_hyphen}
+use Rattle.pr_check.specs.Fields.{items_of, listed_of, parts, read_each, with_next}
 use Rattle.pr_check.specs.Parts.{after, before, is_hyphen}
 use Rattle.pr_check.proofs.PartLoops.{after_here, after_later, before_here, before_later}
 
@@ -53,11 +53,20 @@ part_alone : (b : ℕ) (x : List ℕ) → (x ≡ [] → ⊥) → Lacks b x → p
 part_alone b [] some p = absurd (some refl)
 part_alone b (c ∷ x) some p = ap (parts b) (append-nil (c ∷ x)) ∙ part_last b c x p
 
-pub parts_again : (b : ℕ) (xs : List (List ℕ)) → AreItems b xs → parts b (joined b xs) ≡ xs
+-- none is empty, and none has the byte
+abbrev pub AreParts : ℕ → List (List ℕ) → Type 0
+AreParts b [] = Unit {0}
+AreParts b (x ∷ xs) = (Lacks b x × (x ≡ [] → ⊥)) × AreParts b xs
+
+pub parts_again : (b : ℕ) (xs : List (List ℕ)) → AreParts b xs → parts b (joined b xs) ≡ xs
 unfolding parts
 parts_again b [] h = refl
-parts_again b (x ∷ []) h = part_alone b x h.0.some h.0.lacks
-parts_again b (x ∷ y ∷ ys) h = part_then b x (joined b (y ∷ ys)) h.0.lacks ∙ ap (λ (ps : List (List ℕ)). x ∷ ps) (parts_again b (y ∷ ys) h.1)
+parts_again b (x ∷ []) h = part_alone b x h.0.1 h.0.0
+parts_again b (x ∷ y ∷ ys) h = part_then b x (joined b (y ∷ ys)) h.0.0 ∙ ap (λ (ps : List (List ℕ)). x ∷ ps) (parts_again b (y ∷ ys) h.1)
+
+pub are_parts : (b : ℕ) (xs : List (List ℕ)) → AreItems b xs → AreParts b xs
+are_parts b [] h = tt
+are_parts b (x ∷ xs) h = ((h.0.lacks, h.0.some), are_parts b xs h.1)
 
 -- a hyphen is read for none
 pub listed_again : {A : Type 0} (none : A) (f : List (List ℕ) → A) (xs : List (List ℕ)) → AreItems 44 xs → f [] ≡ none
@@ -65,7 +74,7 @@ pub listed_again : {A : Type 0} (none : A) (f : List (List ℕ) → A) (xs : Lis
 listed_again none f [] h e = sym e
 listed_again none f (x ∷ xs) h e =
     let n : is_hyphen (joined 44 (x ∷ xs)) ≡ false = other_bytes (joined 44 (x ∷ xs)) (45 ∷ []) (λ k. no_hyphen x (more 44 xs) h.0.some h.0.shown (sym k)) in
-    rw n (ap f (parts_again 44 (x ∷ xs) h))
+    rw n (ap f (parts_again 44 (x ∷ xs) (are_parts 44 (x ∷ xs) h)))
 
 -- ---- lists
 
@@ -83,3 +92,11 @@ module _ {A : Type 0} (item : List ℕ → Option A) (text : A → List ℕ) (P 
   pub list_again : (xs : List A) → AreItems 44 (map text xs) → All P xs → listed_of item (listed (map text xs)) ≡ Some xs
   unfolding read_each
   list_again xs i h = listed_again (Some []) (items_of item) (map text xs) i refl ∙ items_again xs h
+
+some_front : (x r : List ℕ) → (x ≡ [] → ⊥) → x ++ r ≡ [] → ⊥
+some_front [] r some e = some refl
+some_front (c ∷ x) r some e = cc
+
+pub listed_some : (xs : List (List ℕ)) → AreItems 44 xs → listed xs ≡ [] → ⊥
+listed_some [] h e = cc
+listed_some (x ∷ xs) h e = some_front x (more 44 xs) h.0.some e

@@ -1,6 +1,6 @@
 -- The fields of a printed line at their places.
 use Rattle.std.proofs.Common.{◌≡◌, ℕ, ◌<◌, ◌^◌, List, [], get_or, Option, Some, ap, ◌∙◌}
-use Rattle.std.specs.Prelude.{All, decimal}
+use Rattle.std.specs.Prelude.{decimal}
 use Rattle.pr_stamps.specs.Point.{IsStamp, Point}
 use Rattle.pr_vectors.specs.Vector.{IsVector}
 use Rattle.pr_names.specs.Name.{IsName}

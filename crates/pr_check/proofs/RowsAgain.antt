@@ -1,5 +1,5 @@
 -- Printed rows and pairs are read again.
-use Rattle.std.proofs.Common.{◌≡◌, ℕ, ◌<◌, Bool, true, false, cond, List, [], ◌∷◌, ◌++◌, map, Option, Some, refl, sym, ap, ◌∙◌, append_assoc, arith}
+use Rattle.std.proofs.Common.{◌≡◌, ℕ, ◌<◌, Bool, true, false, List, [], ◌∷◌, ◌++◌, map, Option, Some, refl, sym, ap, ◌∙◌, append_assoc, arith}
 use Rattle.std.specs.Prelude.{All, ◌==◌, ◌||◌}
 use Rattle.std.specs.List.{list_any}
 use Rattle.std.proofs.lemmas.Bool.Decides.{nat_tests}
@@ -15,13 +15,13 @@ use Rattle.pr_story.specs.Counts.{HasMark, HasPair, HasRow}
 use Rattle.pr_story.specs.Ranges.{IsRow, IsStampOrNone}
 use Rattle.pr_text.specs.Numbers.{nodes_of}
 use Rattle.pr_text.specs.Texts.{joined, mark_text, pair_text, pairs_text, row_text, rows_text, stamp_text}
-use Rattle.pr_text.proofs.Cut.{IsOf, Lacks, is_not, of_append}
+use Rattle.pr_text.proofs.Cut.{Lacks, is_not, of_append}
 use Rattle.pr_text.proofs.Messages.{all_both, marks_in, pairs_in, rows_in}
 use Rattle.pr_text.proofs.SameQuotes.{name_bytes}
-use Rattle.pr_text.proofs.SameRows.{IsMarkIn, IsPairIn, IsRowIn, map_items, mark_item, marks_of as marks_lack, pair_item, row_item, stamp_in, takes_low, takes_mid}
+use Rattle.pr_text.proofs.SameRows.{IsMarkIn, IsPairIn, IsRowIn, map_items, mark_item, marks_of as marks_lack, pair_item, row_item, stamp_in, takes_low}
 use Rattle.pr_check.specs.Fields.{items_of, parts, ◌>>=◌}
 use Rattle.pr_check.specs.Parts.{after, before, is_gone, mark_of, pair_of, pairs_of, row_of, row_with, rows_of, sign_of, stamp_of}
-use Rattle.pr_check.proofs.PartsAgain.{after_again, before_again, items_again, list_again, parts_again}
+use Rattle.pr_check.proofs.PartsAgain.{after_again, are_parts, before_again, items_again, list_again, parts_again}
 use Rattle.pr_check.proofs.StampsAgain.{mark_again, name_again, pair_again, stamp_again}
 
 -- ---- bytes of names
@@ -104,7 +104,7 @@ module _ (ds : List Decl) (a : AreLabels ds) where
 
   marks_again : (r : Row) → IsRow r → HasRow (nodes_of ds) r → items_of (mark_of ds) (parts 59 (marks_text r)) ≡ Some r.marks
   marks_again r i h =
-      ap (items_of (mark_of ds)) (parts_again 59 (map (mark_text ds) r.marks) (map_items 59 (mark_text ds) (IsMarkIn ds a) (mark_item ds a) r.marks (marks_in ds a r.marks i.2 h.1)))
+      ap (items_of (mark_of ds)) (parts_again 59 (map (mark_text ds) r.marks) (are_parts 59 (map (mark_text ds) r.marks) (map_items 59 (mark_text ds) (IsMarkIn ds a) (mark_item ds a) r.marks (marks_in ds a r.marks i.2 h.1))))
       ∙ items_again (mark_of ds) (mark_text ds) IsMarkRead (mark_again ds a) r.marks
       (all_both (λ (m : Mark). IsStamp m.stamp × IsStampOrNone m.prev) (HasMark (nodes_of ds)) IsMarkRead (λ m r k. (r, k)) r.marks i.2 h.1)
 

@@ -1,6 +1,6 @@
 -- Printed names, numbers, texts, sets and stamps are read again.
-use Rattle.std.proofs.Common.{◌≡◌, ℕ, ◌+◌, ◌<◌, ◌≤◌, ◌^◌, Bool, true, false, cond, List, [], ◌∷◌, ◌++◌, length, Option, Some, None, refl, sym, ap, ◌∙◌, arith, length-append}
-use Rattle.std.specs.Prelude.{All, decimal, nat_le, nat_lt, ◌&&◌, Result, Ok, Err}
+use Rattle.std.proofs.Common.{◌≡◌, ℕ, ◌<◌, ◌≤◌, ◌^◌, Bool, true, false, cond, List, [], ◌∷◌, ◌++◌, length, Option, Some, None, refl, ap, ◌∙◌, arith, length-append}
+use Rattle.std.specs.Prelude.{decimal, nat_le, nat_lt, ◌&&◌}
 use Rattle.std.specs.List.{AllByRecursion}
 use Rattle.std.proofs.lemmas.Bool.Decides.{nat_tests}
 use Rattle.std.proofs.lemmas.List.Elements.{All-head, All-tail}
@@ -11,7 +11,7 @@ use Rattle.pr_names.specs.Span.{IsSpan, Span}
 use Rattle.pr_names.specs.Text.{end_text, interval_text, is_whole}
 use Rattle.pr_names.proofs.Texts.{name_read_ok}
 use Rattle.pr_sets.specs.Spans.{IsSet}
-use Rattle.pr_sets.specs.Text.{more_text, set_read, set_text}
+use Rattle.pr_sets.specs.Text.{more_text, set_text}
 use Rattle.pr_sets.proofs.Texts.{reads_back}
 use Rattle.pr_script.specs.declared.decl.Decl.{Decl}
 use Rattle.pr_script.specs.declared.kind.Kind.TheVariants as kinds

@@ -1,15 +1,18 @@
 -- Vectors that name declared nodes alone.
-use Rattle.std.proofs.Common.{◌≡◌, ℕ, ◌<◌, ◌≤◌, Bool, true, false, cond, List, length, get_or, inl, inr, refl, ◌∙◌, arith}
+use Rattle.std.proofs.Common.{◌≡◌, ℕ, ◌<◌, ◌≤◌, cond, List, length, inl, inr, ◌∙◌, arith}
 use Rattle.std.specs.Prelude.{nat_eq, max}
 use Rattle.std.proofs.lemmas.Bool.{cases_lt}
 use Rattle.std.proofs.lemmas.List.{get_or_past}
 use Rattle.std.proofs.lemmas.Bool.Decides.{nat_tests}
 use Rattle.pr_stamps.specs.Point.{Point}
-use Rattle.pr_vectors.specs.Vector.{clock_of, raised, vector_of, zero_vector}
-use Rattle.pr_vectors.proofs.Vectors.{length-vector_of}
+use Rattle.pr_vectors.specs.Vector.{IsVector, clock_of, raised, zero_vector}
+use Rattle.pr_vectors.proofs.Vectors.{is_in_range, length-vector_of}
 use Rattle.pr_story.specs.Counts.{HasVector}
 use Rattle.pr_story.proofs.Basics.{clock_zero}
 use Rattle.pr_story.proofs.Clients.{raised_clock}
+
+pub zero_is : IsVector zero_vector
+zero_is = is_in_range (λ k. 0) zero_vector (length-vector_of (λ k. 0)) (λ k l. clock_zero k) (λ k l. omega arith)
 
 pub zero_declared : (nodes : ℕ) → HasVector nodes zero_vector
 zero_declared nodes n le = clock_zero n

@@ -1,5 +1,5 @@
 -- A printed vector is read again.
-use Rattle.std.proofs.Common.{◌≡◌, ℕ, zero, suc, ◌+◌, ◌<◌, ◌≤◌, ◌^◌, Bool, true, false, cond, List, [], ◌∷◌, ◌++◌, length, get_or, Option, Some, None, inl, inr, refl, sym, ap, ◌∙◌, subst, arith}
+use Rattle.std.proofs.Common.{◌≡◌, ℕ, suc, ◌+◌, ◌<◌, ◌≤◌, Bool, true, false, cond, List, [], ◌∷◌, ◌++◌, length, get_or, Option, Some, inl, inr, refl, sym, ap, ◌∙◌, subst, arith}
 use Rattle.std.specs.Prelude.{nat_eq, max, decimal}
 use Rattle.std.proofs.lemmas.Bool.{cases_lt}
 use Rattle.std.proofs.lemmas.Bool.Decides.{nat_tests}
@@ -9,7 +9,7 @@ use Rattle.pr_vectors.specs.Vector.{IsVector, clock_of, raised, zero_vector}
 use Rattle.pr_vectors.proofs.Vectors.{length-vector_of}
 use Rattle.pr_script.specs.declared.decl.Decl.{Decl}
 use Rattle.pr_script.specs.declared.kind.Kind.TheVariants as kinds
-use Rattle.pr_script.specs.Labels.{AreLabels, is_label, labels_of}
+use Rattle.pr_script.specs.Labels.{AreLabels, labels_of}
 use Rattle.pr_script.specs.Printing.{label_text}
 use Rattle.pr_story.specs.Counts.{HasVector}
 use Rattle.pr_story.proofs.Basics.{clock_zero}

@@ -1,7 +1,7 @@
 -- What an event was asked for by.
-use Rattle.std.specs.Prelude.{ℕ, List, [], cond}
+use Rattle.std.specs.Prelude.{ℕ, [], cond}
 use Rattle.pr_inval.specs.declared.kind.Kind.{Kind}
-use Rattle.pr_inval.specs.declared.kind.Kind.TheVariants.{Precise, Imprecise, Checkpoint, Body}
+use Rattle.pr_inval.specs.declared.kind.Kind.TheVariants.{Checkpoint}
 use Rattle.pr_story.specs.declared.event.Event.{Event}
 use Rattle.pr_story.specs.declared.event.Event.TheVariants.{Wrote, Attached, Sent, Idle, Stale, Accepted, Gapped, Missing, Down, Answered, Behind, Moved, Cut, Dropped, Conflicts, State}
 use Rattle.pr_text.specs.declared.plain.line.Asked.{Asked}

@@ -50,13 +50,7 @@ pub fn delete(alloc: Global, decls: &[Decl], line: &[u8]) -> Option<Event>
 
 // A write with this body, where the fields from its stamp on are the rest.
 #[tactic(auto, unfolding(crate::specs::Events::wrote_with))]
-fn wrote_with(
-    decls: &[Decl],
-    gone: bool,
-    body: Bytes,
-    line: &[u8],
-    rest: &[u8],
-) -> Option<Event>
+fn wrote_with(decls: &[Decl], gone: bool, body: Bytes, line: &[u8], rest: &[u8]) -> Option<Event>
     requires labels { AreLabels decls.now }
     requires bytes { IsBytes body }
     ensures reads { result ≡ wrote_with decls.now gone body line.now rest.now }

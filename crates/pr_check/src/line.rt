@@ -22,10 +22,11 @@ pub fn read_line(alloc: Global, decls: &Decls, line: &[u8]) -> Result<Option<Sai
     requires { AreLabels decls.now.list }
     ensures { IfOk result (Says decls.now.list line.now) }
 {
-    if !has_node(decls.list.as_slice()) {
+    let list = decls.list.as_slice();
+    if !has_node(list) {
         return Ok(None);
     }
-    match told(alloc, decls.list.as_slice(), line) {
+    match told(alloc, list, line) {
         Ok(told) => said_if_printed(alloc, decls, told, line),
         Err(Refusal::Unread) => Ok(None),
         Err(Refusal::NoMemory) => Err(NoMemory),

@@ -29,11 +29,7 @@ pub fn pairs(alloc: Global, decls: &[Decl], bytes: &[u8]) -> Result<Seq<(Stamp, 
     some_pairs(alloc, decls, bytes)
 }
 
-fn some_pairs(
-    alloc: Global,
-    decls: &[Decl],
-    bytes: &[u8],
-) -> Result<Seq<(Stamp, Stamp)>, Refusal>
+fn some_pairs(alloc: Global, decls: &[Decl], bytes: &[u8]) -> Result<Seq<(Stamp, Stamp)>, Refusal>
     requires { AreLabels decls.now }
     ensures reads { Gives result (items_of (pair_of decls.now) (parts 44 bytes.now)) }
     ensures range { IfOk result (All (λ p. IsStamp p.0 × IsStamp p.1)) }

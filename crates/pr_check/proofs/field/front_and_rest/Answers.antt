@@ -1,4 +1,4 @@
-use Rattle.std.proofs.Common.{◌≡◌, ◌∙◌, sym, arith, length}
+use Rattle.std.proofs.Common.{◌∙◌, sym, arith}
 use Rattle.std.proofs.lemmas.Grind.{common_steps}
 use Rattle.pr_check.proofs.FieldLoops.{at_next, front_ends, front_whole, rest_ends, rest_none}
 use Rattle.pr_check.proofs.field.front_and_rest.Goals as goal

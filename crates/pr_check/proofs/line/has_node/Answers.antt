@@ -1,7 +1,5 @@
-use Rattle.std.proofs.Common.{◌≡◌, ◌∙◌, List, ℕ, not, length, ap}
+use Rattle.std.proofs.Common.{◌∙◌, List, ℕ, not, length, ap}
 use Rattle.std.specs.Prelude.{◌==◌}
-use Rattle.pr_check.proofs.PartsAgain.{list_again}
-use Rattle.pr_check.proofs.FieldsAgain.{fields_behind}
 use Rattle.pr_check.proofs.LineRead.{has_node}
 use Rattle.pr_check.proofs.line.has_node.Goals as goal
 

@@ -1,4 +1,4 @@
-use Rattle.std.proofs.Common.{◌≡◌, ◌∙◌, sym, ◌<◌, ◌^◌, arith}
+use Rattle.std.proofs.Common.{◌∙◌, sym, arith}
 use Rattle.pr_check.proofs.Numbers.{few_of, number_is, number_within}
 use Rattle.pr_check.proofs.part.number.Goals as goal
 

@@ -1,4 +1,3 @@
-use Rattle.std.proofs.Common.{◌≡◌, sym}
 use Rattle.std.proofs.lemmas.List.Elements.{All-push}
 use Rattle.pr_stamps.specs.Point.{IsStamp}
 use Rattle.pr_story.specs.Counts.{HasMark}

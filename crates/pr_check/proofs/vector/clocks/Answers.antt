@@ -1,4 +1,4 @@
-use Rattle.std.proofs.Common.{◌≡◌, ◌∙◌, sym, rules}
+use Rattle.std.proofs.Common.{◌∙◌, rules}
 use Rattle.pr_check.proofs.PartLoops.{each_done, each_fails, each_goes_on}
 use Rattle.pr_check.specs.Parts.{with_clock}
 use Rattle.pr_check.proofs.vector.clocks.Goals as goal
