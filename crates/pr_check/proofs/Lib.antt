@@ -12,3 +12,4 @@ pub mod ReadAgain
 pub mod KindsAgain
 pub mod EventsAgain
 pub mod LineRead
+pub mod HeadLines

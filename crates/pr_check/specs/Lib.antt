@@ -3,3 +3,4 @@ pub mod Lines
 pub mod Fields
 pub mod Parts
 pub mod Events
+pub mod Heads

@@ -5,6 +5,7 @@ mod answer;
 mod client;
 mod event;
 mod field;
+mod head;
 mod line;
 mod message;
 mod node;
@@ -14,8 +15,11 @@ mod row;
 mod said;
 mod stamp;
 mod stream;
+#[cfg(test)]
+mod tests;
 mod told;
 mod vector;
 
+pub use head::{begins_head, no_decls, read_head};
 pub use line::read_line;
 pub use said::Said;
