@@ -13,3 +13,4 @@ pub mod KindsAgain
 pub mod EventsAgain
 pub mod LineRead
 pub mod HeadLines
+pub mod Given

@@ -6,6 +6,7 @@ mod client;
 mod event;
 mod field;
 mod head;
+mod law;
 mod line;
 mod message;
 mod node;
@@ -21,5 +22,6 @@ mod told;
 mod vector;
 
 pub use head::{begins_head, no_decls, read_head};
+pub use law::events_are_given_by_what_lines_say;
 pub use line::read_line;
 pub use said::Said;

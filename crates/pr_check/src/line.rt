@@ -16,8 +16,8 @@ use pr_text::line as print_line;
 use std::alloc::Global;
 
 /// What a line, without its end, says that was asked for; None where it is no event's line. Its fields are read by their
-/// places, and the event that they make is printed again and compared with the line. It takes time linear in the line for
-/// each of its fields, and for each label in it linear in the declarations.
+/// places, and the event that they make is printed again and compared with the line. It takes time linear in the line, a
+/// few times over, and for each label in it linear in the declarations.
 pub fn read_line(alloc: Global, decls: &Decls, line: &[u8]) -> Result<Option<Said>, NoMemory>
     requires { AreLabels decls.now.list }
     ensures { IfOk result (Says decls.now.list line.now) }
