@@ -30,10 +30,10 @@ use Rattle.pr_text.proofs.Messages.{all_both}
 use Rattle.pr_text.proofs.Same.{AllItems, small_clocks, vector_plain}
 use Rattle.pr_text.proofs.Fields.{AllClosed}
 use Rattle.pr_text.proofs.Sentences.{event_closed, word_plain}
-use Rattle.pr_check.specs.Events.{accepted_of, answered_of, at_node, attached_of, behind_of, cause_of, client_told, conflicts_of, cut_of, delete_of, down_of, dropped_of, empty_from, found_of, gapped_of, idle_of, kind_of, message_told, missing_of, moved_of, msg_with, node_told, reply_with, sent_of, stale_of, state_of, state_with, stream_told, told_of, width_of, write_of, wrote_with}
+use Rattle.pr_check.specs.Events.{accepted_of, answered_of, at_node, attached_of, behind_of, cause_read, client_told, conflicts_of, cut_of, delete_of, down_of, dropped_of, empty_from, found_read, gapped_of, idle_of, kind_read, message_told, missing_of, moved_of, msg_with, node_told, reply_with, sent_of, stale_of, state_of, state_with, stream_told, told_of, width_of, write_of, wrote_with}
 use Rattle.pr_check.specs.Fields.{behind, field_at, items_of, parts}
 use Rattle.pr_check.specs.Lines.{IsTellableAt}
-use Rattle.pr_check.specs.Parts.{vector_of}
+use Rattle.pr_check.specs.Parts.{vector_read}
 use Rattle.pr_check.specs.declared.told.Told.{Told}
 use Rattle.pr_check.proofs.FieldsAgain.{behind_again, fields_again, fields_behind}
 use Rattle.pr_check.proofs.KindsAgain.{found_again, kind_again, reply_again}
@@ -96,7 +96,7 @@ module _ (ds : List Decl) (a : AreLabels ds) where
       let h = fields_again fs (closed n e t) in
       rw (h 0, label_at ds a line fs h 1 kinds.Stream s t.1.declared.0 refl, vector_at ds a line fs h 3 cut t.1.range.1 t.1.declared.1 refl) refl
 
-  cause_again : (c : Cause) → cause_of (cause_text c) ≡ Some c
+  cause_again : (c : Cause) → cause_read (cause_text c) ≡ Some c
   cause_again causes.Failed = refl
   cause_again causes.Ended = refl
   cause_again causes.Gap = refl
@@ -108,7 +108,7 @@ module _ (ds : List Decl) (a : AreLabels ds) where
       let line = sentence ds n e in
       let fs = line_fields n e in
       let h = fields_again fs (closed n e t) in
-      let why : cause_of (field_at 2 line) ≡ Some cause = ap cause_of (h 2) ∙ cause_again cause in
+      let why : cause_read (field_at 2 line) ≡ Some cause = ap cause_read (h 2) ∙ cause_again cause in
       rw (h 0, label_at ds a line fs h 1 kinds.Stream s t.1.declared refl, why) refl
 
   -- ---- messages
@@ -120,7 +120,7 @@ module _ (ds : List Decl) (a : AreLabels ds) where
       let line = sentence ds n e in
       let fs = line_fields n e in
       let h = fields_again fs (closed n e t) in
-      let kind : kind_of ds (behind 3 line) ≡ Some msg.kind = kind_again ds a (behind 3 line) msg.kind t.1.range.3 t.1.declared.1 (fields_behind 3 fs (closed n e t)) in
+      let kind : kind_read ds (behind 3 line) ≡ Some msg.kind = kind_again ds a (behind 3 line) msg.kind t.1.range.3 t.1.declared.1 (fields_behind 3 fs (closed n e t)) in
       rw (h 0, label_at ds a line fs h 1 kinds.Stream msg.stream t.1.declared.0 refl, number_at ds a line fs h 2 msg.number t.1.range.2 refl, kind) refl
 
   accepted_again : (n : ℕ) (msg : Msg) (at : List ℕ) → IsTellableAt ds n (Accepted msg at) → Again n (Accepted msg at)
@@ -260,7 +260,7 @@ module _ (ds : List Decl) (a : AreLabels ds) where
       let line = sentence ds n e in
       let fs = line_fields n e in
       let h = fields_again fs (closed n e t) in
-      let read : found_of ds (behind 3 line) ≡ Some found = found_again ds a (behind 3 line) found t.1.range.1 t.1.declared (fields_behind 3 fs (closed n e t)) in
+      let read : found_read ds (behind 3 line) ≡ Some found = found_again ds a (behind 3 line) found t.1.range.1 t.1.declared (fields_behind 3 fs (closed n e t)) in
       rw (h 0, label_at ds a line fs h 1 kinds.Node n t.0 refl, name_at ds a line fs h 2 name t.1.range.0 refl, read) refl
 
   abbrev IsShownVector : List ℕ → Type 0
@@ -280,11 +280,11 @@ module _ (ds : List Decl) (a : AreLabels ds) where
         vector_parts vs (All-tail IsShownVector v vs h),
       )
 
-  vectors_again : (vs : List (List ℕ)) → All IsVector vs → All (HasVector (nodes_of ds)) vs → items_of (vector_of ds) (parts 32 (joined 32 (map (vector_text ds) vs))) ≡ Some vs
+  vectors_again : (vs : List (List ℕ)) → All IsVector vs → All (HasVector (nodes_of ds)) vs → items_of (vector_read ds) (parts 32 (joined 32 (map (vector_text ds) vs))) ≡ Some vs
   vectors_again vs i d =
       let both = all_both IsVector (HasVector (nodes_of ds)) IsShownVector (λ v r k. (r, k)) vs i d in
-      ap (items_of (vector_of ds)) (parts_again 32 (map (vector_text ds) vs) (vector_parts vs both))
-      ∙ items_again (vector_of ds) (vector_text ds) IsShownVector (λ v k. vector_again ds a v k.0 k.1) vs both
+      ap (items_of (vector_read ds)) (parts_again 32 (map (vector_text ds) vs) (vector_parts vs both))
+      ∙ items_again (vector_read ds) (vector_text ds) IsShownVector (λ v k. vector_again ds a v k.0 k.1) vs both
 
   some_sets : (at cut floor : List ℕ) (precise : List (List ℕ)) → (precise ≡ [] → ⊥) → state_with at cut floor precise ≡ Some (State at cut floor precise)
   some_sets at cut floor [] some = absurd (some refl)
@@ -297,8 +297,8 @@ module _ (ds : List Decl) (a : AreLabels ds) where
       let line = sentence ds n e in
       let fs = line_fields n e in
       let h = fields_again fs (closed n e t) in
-      let read : items_of (vector_of ds) (parts 32 (behind 9 line)) ≡ Some precise =
-      ap (λ (b : List ℕ). items_of (vector_of ds) (parts 32 b)) (behind_again 9 fs (closed n e t)) ∙ vectors_again precise t.1.range.3 t.1.declared.3 in
+      let read : items_of (vector_read ds) (parts 32 (behind 9 line)) ≡ Some precise =
+      ap (λ (b : List ℕ). items_of (vector_read ds) (parts 32 b)) (behind_again 9 fs (closed n e t)) ∙ vectors_again precise t.1.range.3 t.1.declared.3 in
       rw (h 0, label_at ds a line fs h 1 kinds.Node n t.0 refl, vector_at ds a line fs h 3 at t.1.range.0 t.1.declared.0 refl, vector_at ds a line fs h 5 cut t.1.range.1 t.1.declared.1 refl, vector_at ds a line fs h 7 floor t.1.range.2 t.1.declared.2 refl, read, some_sets at cut floor precise t.1.sets) refl
 
   -- ---- each event

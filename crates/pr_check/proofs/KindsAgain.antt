@@ -18,9 +18,9 @@ use Rattle.pr_story.specs.declared.reply.Reply.TheVariants as replies
 use Rattle.pr_text.specs.Lines.{found_fields, kind_fields, reply_fields}
 use Rattle.pr_text.specs.Numbers.{nodes_of}
 use Rattle.pr_text.specs.Texts.{pairs_text}
-use Rattle.pr_check.specs.Events.{body_of, checkpoint_of, found_of, imprecise_of, kind_of, kind_with, precise_of, reply_with, value_of_read}
+use Rattle.pr_check.specs.Events.{body_of, checkpoint_of, found_read, imprecise_of, kind_read, kind_with, precise_of, reply_with, value_of_read}
 use Rattle.pr_check.specs.Fields.{field_at, parts, read_each}
-use Rattle.pr_check.specs.Parts.{pair_of, pairs_of, point_of, rows_of, stamp_of}
+use Rattle.pr_check.specs.Parts.{pair_read, pairs_read, point_read, rows_read, stamp_read}
 use Rattle.pr_check.proofs.FieldsAgain.{HasFields}
 use Rattle.pr_check.proofs.PartsAgain.{other_bytes}
 use Rattle.pr_check.proofs.ReadAgain.{name_at, prev_at, set_at, stamp_at, text_at, vector_at}
@@ -59,7 +59,7 @@ module _ (ds : List Decl) (a : AreLabels ds) where
   unfolding kind_with
   body_again rest k e = e
 
-  pub kind_again : (rest : List ℕ) (k : Kind) → IsKind k → HasKind (nodes_of ds) k → HasFields rest (kind_fields ds k) → kind_of ds rest ≡ Some k
+  pub kind_again : (rest : List ℕ) (k : Kind) → IsKind k → HasKind (nodes_of ds) k → HasFields rest (kind_fields ds k) → kind_read ds rest ≡ Some k
   unfolding imprecise_of checkpoint_of body_of
   kind_again rest (Precise from to w) i d h =
       ap (λ (t : List ℕ). kind_with ds t rest) (h 0) ∙ precise_word w.gone rest (Precise from to w) (precise_again rest from to w i d h)
@@ -72,7 +72,7 @@ module _ (ds : List Decl) (a : AreLabels ds) where
       ) refl)
   kind_again rest (Checkpoint to target floor rows) i d h =
       let fs = kind_fields ds (Checkpoint to target floor rows) in
-      let listed : rows_of ds (field_at 7 rest) ≡ Some rows = ap (rows_of ds) (h 7) ∙ rows_again ds a rows i.3 d.2 in
+      let listed : rows_read ds (field_at 7 rest) ≡ Some rows = ap (rows_read ds) (h 7) ∙ rows_again ds a rows i.3 d.2 in
       ap (λ (t : List ℕ). kind_with ds t rest) (h 0) ∙ checkpoint_again rest (Checkpoint to target floor rows) (rw (
         set_at ds a rest fs h 1 target i.1 refl,
         vector_at ds a rest fs h 3 to i.0 d.0 refl,
@@ -100,18 +100,18 @@ module _ (ds : List Decl) (a : AreLabels ds) where
   reply_again rest word (replies.Body stamp) more i d h e = rw (e, stamp_at ds a rest (reply_fields ds (replies.Body stamp) ++ more) h 1 stamp i d refl) refl
   reply_again rest word (replies.Gone stamp) more i d h e = rw (e, stamp_at ds a rest (reply_fields ds (replies.Gone stamp) ++ more) h 1 stamp i d refl) refl
 
-  no_pairs : pairs_of ds (codes "imprecise") ≡ None
-  unfolding parts read_each pair_of stamp_of point_of value_from
+  no_pairs : pairs_read ds (codes "imprecise") ≡ None
+  unfolding parts read_each pair_read stamp_read point_read value_from
   no_pairs = refl
 
-  pairs_word : (pairs : List (Point × Point)) → pairs_of ds (pairs_text ds pairs) ≡ Some pairs → bytes_eq (pairs_text ds pairs) (codes "imprecise") ≡ false
-  pairs_word pairs e = other_bytes (pairs_text ds pairs) (codes "imprecise") (λ k. clash pairs (sym no_pairs ∙ ap (pairs_of ds) (sym k) ∙ e))
+  pairs_word : (pairs : List (Point × Point)) → pairs_read ds (pairs_text ds pairs) ≡ Some pairs → bytes_eq (pairs_text ds pairs) (codes "imprecise") ≡ false
+  pairs_word pairs e = other_bytes (pairs_text ds pairs) (codes "imprecise") (λ k. clash pairs (sym no_pairs ∙ ap (pairs_read ds) (sym k) ∙ e))
     where
       clash : (ps : List (Point × Point)) → (let none : Option (List (Point × Point)) = None in none) ≡ Some ps → ⊥
       clash ps f = cc
 
-  pub found_again : (rest : List ℕ) (f : Found) → IsFinding f → HasFound (nodes_of ds) f → HasFields rest (found_fields ds f) → found_of ds rest ≡ Some f
-  unfolding found_of
+  pub found_again : (rest : List ℕ) (f : Found) → IsFinding f → HasFound (nodes_of ds) f → HasFields rest (found_fields ds f) → found_read ds rest ≡ Some f
+  unfolding found_read
   found_again rest (founds.Pairs pairs) i d h =
       let read = pairs_again ds a pairs i d in
       rw (h 0, pairs_word pairs read, read) refl

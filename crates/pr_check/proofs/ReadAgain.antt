@@ -19,7 +19,7 @@ use Rattle.pr_text.specs.Numbers.{Has, nodes_of}
 use Rattle.pr_text.specs.Texts.{prev_text, stamp_text, vector_text}
 use Rattle.pr_check.specs.Events.{count_at}
 use Rattle.pr_check.specs.Fields.{field_at}
-use Rattle.pr_check.specs.Parts.{prev_of, set_of, stamp_of, vector_of}
+use Rattle.pr_check.specs.Parts.{prev_read, target_read, stamp_read, vector_read}
 use Rattle.pr_check.proofs.FieldsAgain.{HasFields}
 use Rattle.pr_check.proofs.Numbers.{number_again}
 use Rattle.pr_check.proofs.StampsAgain as stamps
@@ -39,14 +39,14 @@ module _ (ds : List Decl) (a : AreLabels ds) (bytes : List ℕ) (fs : List (List
   pub text_at : (t : List ℕ) → IsBytes t → get_or fs n [] ≡ quoted t → value_of (last_text (field_at n bytes)) ≡ Some t
   text_at t i e = ap (λ (f : List ℕ). value_of (last_text f)) (h n ∙ e) ∙ quoted_again t i
 
-  pub set_at : (s : List Span) → IsSet s → get_or fs n [] ≡ set_text s → set_of (field_at n bytes) ≡ Some s
-  set_at s i e = ap set_of (h n ∙ e) ∙ set_again s i
+  pub set_at : (s : List Span) → IsSet s → get_or fs n [] ≡ set_text s → target_read (field_at n bytes) ≡ Some s
+  set_at s i e = ap target_read (h n ∙ e) ∙ set_again s i
 
-  pub stamp_at : (p : Point) → IsStamp p → HasStamp (nodes_of ds) p → get_or fs n [] ≡ stamp_text ds p → stamp_of ds (field_at n bytes) ≡ Some p
-  stamp_at p i d e = ap (stamp_of ds) (h n ∙ e) ∙ stamps.stamp_again ds a p i d
+  pub stamp_at : (p : Point) → IsStamp p → HasStamp (nodes_of ds) p → get_or fs n [] ≡ stamp_text ds p → stamp_read ds (field_at n bytes) ≡ Some p
+  stamp_at p i d e = ap (stamp_read ds) (h n ∙ e) ∙ stamps.stamp_again ds a p i d
 
-  pub prev_at : (p : Option Point) → IsStampOrNone p → HasPrev (nodes_of ds) p → get_or fs n [] ≡ prev_text ds p → prev_of ds (field_at n bytes) ≡ Some p
-  prev_at p i d e = ap (prev_of ds) (h n ∙ e) ∙ stamps.prev_again ds a p i d
+  pub prev_at : (p : Option Point) → IsStampOrNone p → HasPrev (nodes_of ds) p → get_or fs n [] ≡ prev_text ds p → prev_read ds (field_at n bytes) ≡ Some p
+  prev_at p i d e = ap (prev_read ds) (h n ∙ e) ∙ stamps.prev_again ds a p i d
 
-  pub vector_at : (v : List ℕ) → IsVector v → HasVector (nodes_of ds) v → get_or fs n [] ≡ vector_text ds v → vector_of ds (field_at n bytes) ≡ Some v
-  vector_at v i d e = ap (vector_of ds) (h n ∙ e) ∙ vector_again ds a v i d
+  pub vector_at : (v : List ℕ) → IsVector v → HasVector (nodes_of ds) v → get_or fs n [] ≡ vector_text ds v → vector_read ds (field_at n bytes) ≡ Some v
+  vector_at v i d e = ap (vector_read ds) (h n ∙ e) ∙ vector_again ds a v i d

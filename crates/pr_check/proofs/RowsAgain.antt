@@ -20,7 +20,7 @@ use Rattle.pr_text.proofs.Messages.{all_both, marks_in, pairs_in, rows_in}
 use Rattle.pr_text.proofs.SameQuotes.{name_bytes}
 use Rattle.pr_text.proofs.SameRows.{IsMarkIn, IsPairIn, IsRowIn, map_items, mark_item, marks_of as marks_lack, pair_item, row_item, stamp_in, takes_low}
 use Rattle.pr_check.specs.Fields.{items_of, parts, ◌>>=◌}
-use Rattle.pr_check.specs.Parts.{after, before, is_gone, mark_of, pair_of, pairs_of, row_of, row_with, rows_of, sign_of, stamp_of}
+use Rattle.pr_check.specs.Parts.{after, before, is_gone, mark_read, pair_read, pairs_read, row_read, row_with, rows_read, sign_of, stamp_read}
 use Rattle.pr_check.proofs.PartsAgain.{after_again, are_parts, before_again, items_again, list_again, parts_again}
 use Rattle.pr_check.proofs.StampsAgain.{mark_again, name_again, pair_again, stamp_again}
 
@@ -62,9 +62,9 @@ module _ (ds : List Decl) (a : AreLabels ds) where
   abbrev IsPairRead : Point × Point → Type 0
   IsPairRead p = (IsStamp p.0 × IsStamp p.1) × HasPair (nodes_of ds) p
 
-  pub pairs_again : (ps : List (Point × Point)) → All (λ (p : Point × Point). IsStamp p.0 × IsStamp p.1) ps → All (HasPair (nodes_of ds)) ps → pairs_of ds (pairs_text ds ps) ≡ Some ps
+  pub pairs_again : (ps : List (Point × Point)) → All (λ (p : Point × Point). IsStamp p.0 × IsStamp p.1) ps → All (HasPair (nodes_of ds)) ps → pairs_read ds (pairs_text ds ps) ≡ Some ps
   pairs_again ps i h =
-      list_again (pair_of ds) (pair_text ds) IsPairRead (pair_again ds a) ps
+      list_again (pair_read ds) (pair_text ds) IsPairRead (pair_again ds a) ps
       (map_items 44 (pair_text ds) (IsPairIn ds a) (pair_item ds a) ps (pairs_in ds a ps i h))
       (all_both (λ (p : Point × Point). IsStamp p.0 × IsStamp p.1) (HasPair (nodes_of ds)) IsPairRead (λ p r k. (r, k)) ps i h)
 
@@ -99,24 +99,24 @@ module _ (ds : List Decl) (a : AreLabels ds) where
   with_again r i h =
       let lacks : Lacks (sign_of r.gone) r.name = name_bytes (is_not (sign_of r.gone)) r.name i.0 (name_sign r.gone) in
       let name : name_of (before (sign_of r.gone) (written r)) ≡ Some r.name = ap name_of (before_again (sign_of r.gone) r.name (stamp_text ds r.newest) lacks) ∙ name_again r.name i.0 in
-      let newest : stamp_of ds (after (sign_of r.gone) (written r)) ≡ Some r.newest = ap (stamp_of ds) (after_again (sign_of r.gone) r.name (stamp_text ds r.newest) lacks) ∙ stamp_again ds a r.newest i.1 h.0 in
+      let newest : stamp_read ds (after (sign_of r.gone) (written r)) ≡ Some r.newest = ap (stamp_read ds) (after_again (sign_of r.gone) r.name (stamp_text ds r.newest) lacks) ∙ stamp_again ds a r.newest i.1 h.0 in
       rw (name, newest) refl
 
-  marks_again : (r : Row) → IsRow r → HasRow (nodes_of ds) r → items_of (mark_of ds) (parts 59 (marks_text r)) ≡ Some r.marks
+  marks_again : (r : Row) → IsRow r → HasRow (nodes_of ds) r → items_of (mark_read ds) (parts 59 (marks_text r)) ≡ Some r.marks
   marks_again r i h =
-      ap (items_of (mark_of ds)) (parts_again 59 (map (mark_text ds) r.marks) (are_parts 59 (map (mark_text ds) r.marks) (map_items 59 (mark_text ds) (IsMarkIn ds a) (mark_item ds a) r.marks (marks_in ds a r.marks i.2 h.1))))
-      ∙ items_again (mark_of ds) (mark_text ds) IsMarkRead (mark_again ds a) r.marks
+      ap (items_of (mark_read ds)) (parts_again 59 (map (mark_text ds) r.marks) (are_parts 59 (map (mark_text ds) r.marks) (map_items 59 (mark_text ds) (IsMarkIn ds a) (mark_item ds a) r.marks (marks_in ds a r.marks i.2 h.1))))
+      ∙ items_again (mark_read ds) (mark_text ds) IsMarkRead (mark_again ds a) r.marks
       (all_both (λ (m : Mark). IsStamp m.stamp × IsStampOrNone m.prev) (HasMark (nodes_of ds)) IsMarkRead (λ m r k. (r, k)) r.marks i.2 h.1)
 
-  row_again : (r : Row) → IsRow r × HasRow (nodes_of ds) r → row_of ds (row_text ds r) ≡ Some r
-  unfolding row_of
+  row_again : (r : Row) → IsRow r × HasRow (nodes_of ds) r → row_read ds (row_text ds r) ≡ Some r
+  unfolding row_read
   row_again r k =
       let i = k.0 in
       let h = k.1 in
       let front : before 40 (row_text ds r) ≡ written r = ap (before 40) (row_is r) ∙ before_again 40 (written r) (marks_text r ++ 41 ∷ []) (written_lacks r i h) in
       let behind : after 40 (row_text ds r) ≡ marks_text r ++ 41 ∷ [] = ap (after 40) (row_is r) ∙ after_again 40 (written r) (marks_text r ++ 41 ∷ []) (written_lacks r i h) in
       let inside : before 41 (marks_text r ++ 41 ∷ []) ≡ marks_text r = before_again 41 (marks_text r) [] (marks_lack ds a (is_not 41) (takes_low 41 (omega arith)) refl refl r.marks (marks_in ds a r.marks i.2 h.1)) in
-      let marks : items_of (mark_of ds) (parts 59 (before 41 (after 40 (row_text ds r)))) ≡ Some r.marks = ap (λ (t : List ℕ). items_of (mark_of ds) (parts 59 (before 41 t))) behind ∙ ap (λ (t : List ℕ). items_of (mark_of ds) (parts 59 t)) inside ∙ marks_again r i h in
+      let marks : items_of (mark_read ds) (parts 59 (before 41 (after 40 (row_text ds r)))) ≡ Some r.marks = ap (λ (t : List ℕ). items_of (mark_read ds) (parts 59 (before 41 t))) behind ∙ ap (λ (t : List ℕ). items_of (mark_read ds) (parts 59 t)) inside ∙ marks_again r i h in
       ap (λ (o : Option (List Mark)). o >>= λ marks. row_with ds (before 40 (row_text ds r)) (is_gone (before 40 (row_text ds r))) marks) marks
       ∙ ap (λ (t : List ℕ). row_with ds t (is_gone t) r.marks) front
       ∙ ap (λ (g : Bool). row_with ds (written r) g r.marks) (gone_again r.gone r.name r.newest i.0 i.1 h.0)
@@ -125,8 +125,8 @@ module _ (ds : List Decl) (a : AreLabels ds) where
   abbrev IsRowRead : Row → Type 0
   IsRowRead r = IsRow r × HasRow (nodes_of ds) r
 
-  pub rows_again : (rows : List Row) → All IsRow rows → All (HasRow (nodes_of ds)) rows → rows_of ds (rows_text ds rows) ≡ Some rows
+  pub rows_again : (rows : List Row) → All IsRow rows → All (HasRow (nodes_of ds)) rows → rows_read ds (rows_text ds rows) ≡ Some rows
   rows_again rows i h =
-      list_again (row_of ds) (row_text ds) IsRowRead row_again rows
+      list_again (row_read ds) (row_text ds) IsRowRead row_again rows
       (map_items 44 (row_text ds) (IsRowIn ds a) (row_item ds a) rows (rows_in ds a rows i h))
       (all_both IsRow (HasRow (nodes_of ds)) IsRowRead (λ r j k. (j, k)) rows i h)

@@ -30,7 +30,7 @@ use Rattle.pr_text.proofs.Items.{not_hyphen}
 use Rattle.pr_text.proofs.Same.{digits_before_at, digits_of, is_digit}
 use Rattle.pr_text.proofs.SameRows.{stamp_in, takes_bar, takes_mid}
 use Rattle.pr_check.specs.Fields.{◌>>=◌}
-use Rattle.pr_check.specs.Parts.{after, before, is_hyphen, mark_of, pair_of, point_of, prev_of, set_of, stamp_of, stamp_with}
+use Rattle.pr_check.specs.Parts.{after, before, is_hyphen, mark_read, pair_read, point_read, prev_read, target_read, stamp_read, stamp_with}
 use Rattle.pr_check.proofs.Numbers.{number_again}
 use Rattle.pr_check.proofs.PartsAgain.{after_again, before_again, other_bytes}
 
@@ -73,8 +73,8 @@ set_long (s ∷ ss) h =
     let i = interval_some s h.0 in
     omega (arith, length-append (interval_text s) (more_text ss), m, i)
 
-pub set_again : (ss : List Span) → IsSet ss → set_of (set_text ss) ≡ Some ss
-unfolding set_of
+pub set_again : (ss : List Span) → IsSet ss → target_read (set_text ss) ≡ Some ss
+unfolding target_read
 set_again ss h = ap value_of (reads_back ss (length (set_text ss)) h (set_long ss h))
 
 -- ---- stamps
@@ -83,8 +83,8 @@ in_range : (c n : ℕ) → 1 ≤ c → c ≤ 4611686018427387903 → n < 32 → 
 in_range c n lo hi l = grind (arith, nat_tests)
 
 module _ (ds : List Decl) (a : AreLabels ds) where
-  pub point_again : (p : Point) → IsStamp p → HasStamp (nodes_of ds) p → point_of ds (decimal p.clock) (label_text kinds.Node ds p.node) ≡ Some p
-  unfolding point_of stamp_with
+  pub point_again : (p : Point) → IsStamp p → HasStamp (nodes_of ds) p → point_read ds (decimal p.clock) (label_text kinds.Node ds p.node) ≡ Some p
+  unfolding point_read stamp_with
   point_again p s h =
       rw (
         decimals.number_again 1 4611686018427387903 p.clock s.from_one s.most (omega (arith, s.most)),
@@ -95,16 +95,16 @@ module _ (ds : List Decl) (a : AreLabels ds) where
   clock_lacks : (p : Point) → IsStamp p → Lacks 64 (decimal p.clock)
   clock_lacks p s = of_all is_digit (is_not 64) (decimal p.clock) digits_before_at (digits_of p.clock (omega (arith, s.most)))
 
-  pub stamp_again : (p : Point) → IsStamp p → HasStamp (nodes_of ds) p → stamp_of ds (stamp_text ds p) ≡ Some p
-  unfolding stamp_of
+  pub stamp_again : (p : Point) → IsStamp p → HasStamp (nodes_of ds) p → stamp_read ds (stamp_text ds p) ≡ Some p
+  unfolding stamp_read
   stamp_again p s h =
       let label = label_text kinds.Node ds p.node in
-      ap (λ (t : List ℕ). point_of ds t (after 64 (stamp_text ds p))) (before_again 64 (decimal p.clock) label (clock_lacks p s))
-      ∙ ap (λ (t : List ℕ). point_of ds (decimal p.clock) t) (after_again 64 (decimal p.clock) label (clock_lacks p s))
+      ap (λ (t : List ℕ). point_read ds t (after 64 (stamp_text ds p))) (before_again 64 (decimal p.clock) label (clock_lacks p s))
+      ∙ ap (λ (t : List ℕ). point_read ds (decimal p.clock) t) (after_again 64 (decimal p.clock) label (clock_lacks p s))
       ∙ point_again p s h
 
-  pub prev_again : (p : Option Point) → IsStampOrNone p → HasPrev (nodes_of ds) p → prev_of ds (prev_text ds p) ≡ Some p
-  unfolding prev_of
+  pub prev_again : (p : Option Point) → IsStampOrNone p → HasPrev (nodes_of ds) p → prev_read ds (prev_text ds p) ≡ Some p
+  unfolding prev_read
   prev_again None s h = refl
   prev_again (Some p) s h =
       let e : is_hyphen (stamp_text ds p) ≡ false = other_bytes (stamp_text ds p) (45 ∷ []) (not_hyphen (decimal p.clock) 64 (label_text kinds.Node ds p.node) (λ k. absurd (omega (arith, k)))) in
@@ -112,18 +112,18 @@ module _ (ds : List Decl) (a : AreLabels ds) where
 
   -- ---- pairs and marks
 
-  pub pair_again : (p : Point × Point) → (IsStamp p.0 × IsStamp p.1) × HasPair (nodes_of ds) p → pair_of ds (pair_text ds p) ≡ Some p
-  unfolding pair_of
+  pub pair_again : (p : Point × Point) → (IsStamp p.0 × IsStamp p.1) × HasPair (nodes_of ds) p → pair_read ds (pair_text ds p) ≡ Some p
+  unfolding pair_read
   pair_again p h =
       let lacks : Lacks 124 (stamp_text ds p.0) = stamp_in ds a (is_not 124) takes_bar p.0 (h.0.0, h.1.0) in
-      let one : stamp_of ds (before 124 (pair_text ds p)) ≡ Some p.0 = ap (stamp_of ds) (before_again 124 (stamp_text ds p.0) (stamp_text ds p.1) lacks) ∙ stamp_again p.0 h.0.0 h.1.0 in
-      let two : stamp_of ds (after 124 (pair_text ds p)) ≡ Some p.1 = ap (stamp_of ds) (after_again 124 (stamp_text ds p.0) (stamp_text ds p.1) lacks) ∙ stamp_again p.1 h.0.1 h.1.1 in
+      let one : stamp_read ds (before 124 (pair_text ds p)) ≡ Some p.0 = ap (stamp_read ds) (before_again 124 (stamp_text ds p.0) (stamp_text ds p.1) lacks) ∙ stamp_again p.0 h.0.0 h.1.0 in
+      let two : stamp_read ds (after 124 (pair_text ds p)) ≡ Some p.1 = ap (stamp_read ds) (after_again 124 (stamp_text ds p.0) (stamp_text ds p.1) lacks) ∙ stamp_again p.1 h.0.1 h.1.1 in
       rw (one, two) refl
 
-  pub mark_again : (m : Mark) → (IsStamp m.stamp × IsStampOrNone m.prev) × HasMark (nodes_of ds) m → mark_of ds (mark_text ds m) ≡ Some m
-  unfolding mark_of
+  pub mark_again : (m : Mark) → (IsStamp m.stamp × IsStampOrNone m.prev) × HasMark (nodes_of ds) m → mark_read ds (mark_text ds m) ≡ Some m
+  unfolding mark_read
   mark_again m h =
       let lacks : Lacks 60 (stamp_text ds m.stamp) = stamp_in ds a (is_not 60) (takes_mid 60 (omega arith) (omega arith)) m.stamp (h.0.0, h.1.0) in
-      let one : stamp_of ds (before 60 (mark_text ds m)) ≡ Some m.stamp = ap (stamp_of ds) (before_again 60 (stamp_text ds m.stamp) (prev_text ds m.prev) lacks) ∙ stamp_again m.stamp h.0.0 h.1.0 in
-      let two : prev_of ds (after 60 (mark_text ds m)) ≡ Some m.prev = ap (prev_of ds) (after_again 60 (stamp_text ds m.stamp) (prev_text ds m.prev) lacks) ∙ prev_again m.prev h.0.1 h.1.1 in
+      let one : stamp_read ds (before 60 (mark_text ds m)) ≡ Some m.stamp = ap (stamp_read ds) (before_again 60 (stamp_text ds m.stamp) (prev_text ds m.prev) lacks) ∙ stamp_again m.stamp h.0.0 h.1.0 in
+      let two : prev_read ds (after 60 (mark_text ds m)) ≡ Some m.prev = ap (prev_read ds) (after_again 60 (stamp_text ds m.stamp) (prev_text ds m.prev) lacks) ∙ prev_again m.prev h.0.1 h.1.1 in
       rw (one, two) refl

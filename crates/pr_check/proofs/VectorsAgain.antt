@@ -19,7 +19,7 @@ use Rattle.pr_text.specs.Texts.{clocks, vector_text}
 use Rattle.pr_text.proofs.Cut.{Lacks, is_not, of_all}
 use Rattle.pr_text.proofs.Same.{AllItems, alnum, clock_text, is_label_of, label_letters, letters_before_colon, small_clocks}
 use Rattle.pr_check.specs.Fields.{read_each, ◌>>=◌}
-use Rattle.pr_check.specs.Parts.{after, before, point_of, vector_of, with_clock}
+use Rattle.pr_check.specs.Parts.{after, before, point_read, vector_read, with_clock}
 use Rattle.pr_check.proofs.PartsAgain.{after_again, before_again, listed_again}
 use Rattle.pr_check.proofs.StampsAgain.{point_again}
 
@@ -77,9 +77,9 @@ module _ (ds : List Decl) (a : AreLabels ds) (v : List ℕ) (i : IsVector v) whe
       let s : IsStamp p = record { from_one = some; most = i.most w lt; known_node = lt } in
       let l = label_text kinds.Node ds w in
       let c = decimal (clock_of v w) in
-      let e : point_of ds (after 58 (l ++ 58 ∷ c)) (before 58 (l ++ 58 ∷ c)) ≡ Some p =
-      ap (λ (t : List ℕ). point_of ds t (before 58 (l ++ 58 ∷ c))) (after_again 58 l c (label_lacks w h))
-      ∙ ap (λ (t : List ℕ). point_of ds c t) (before_again 58 l c (label_lacks w h))
+      let e : point_read ds (after 58 (l ++ 58 ∷ c)) (before 58 (l ++ 58 ∷ c)) ≡ Some p =
+      ap (λ (t : List ℕ). point_read ds t (before 58 (l ++ 58 ∷ c))) (after_again 58 l c (label_lacks w h))
+      ∙ ap (λ (t : List ℕ). point_read ds c t) (before_again 58 l c (label_lacks w h))
       ∙ point_again ds a p s h in
       rw e refl
 
@@ -121,8 +121,8 @@ module _ (ds : List Decl) (a : AreLabels ds) (v : List ℕ) (i : IsVector v) whe
           ap (λ (r : Option (List ℕ)). r >>= λ y. read_each (with_clock ds) y (clocks ls (w + 1) v)) (read (some_if (clock_of v w) e)) in
           ended _ (subst (λ (r : Option (List ℕ)). Reads r (w + 1 + length ls) v) (sym o) (later (raised u p) (rises w u v lt h)))
 
-  pub vector_again : HasVector (nodes_of ds) v → vector_of ds (vector_text ds v) ≡ Some v
-  unfolding vector_of read_each label_text
+  pub vector_again : HasVector (nodes_of ds) v → vector_read ds (vector_text ds v) ≡ Some v
+  unfolding vector_read read_each label_text
   vector_again h =
       listed_again (Some zero_vector) (read_each (with_clock ds) zero_vector) (clocks ls 0 v) (AllItems ls 0 v (a.each kinds.Node) (small_clocks ds a v (i, h))) refl
       ∙ all.is ∙ ap (λ (t : List ℕ). Some t) same

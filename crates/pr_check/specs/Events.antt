@@ -23,7 +23,7 @@ use Rattle.pr_check.specs.Said.{said_of}
 use Rattle.pr_check.specs.declared.said.Said.{Said}
 use Rattle.pr_check.specs.declared.told.Told.{Told}
 use Rattle.pr_check.specs.Fields.{◌>>=◌, behind, field_at, items_of, parts}
-use Rattle.pr_check.specs.Parts.{pairs_of, prev_of, rows_of, set_of, stamp_of, vector_of}
+use Rattle.pr_check.specs.Parts.{pairs_read, prev_read, rows_read, target_read, stamp_read, vector_read}
 
 -- ---- what names no declaration
 
@@ -42,8 +42,8 @@ width_of (replies.Imprecise untold) = 2
 width_of (replies.Body stamp) = 2
 width_of (replies.Gone stamp) = 2
 
-abbrev pub cause_of : List ℕ → Option Cause
-cause_of word =
+abbrev pub cause_read : List ℕ → Option Cause
+cause_read word =
     cond (bytes_eq word (codes "failed")) (Some causes.Failed) (
     cond (bytes_eq word (codes "ended")) (Some causes.Ended) (
     cond (bytes_eq word (codes "gap")) (Some causes.Gap) None))
@@ -68,31 +68,31 @@ module _ (ds : List Decl) where
   unfoldable pub precise_of : Bool → List ℕ → Option Kind
   precise_of gone rest = do
     name ← name_of (field_at 1 rest)
-    stamp ← stamp_of ds (field_at 2 rest)
-    prev ← prev_of ds (field_at 4 rest)
-    from ← vector_of ds (field_at 6 rest)
-    to ← vector_of ds (field_at 8 rest)
+    stamp ← stamp_read ds (field_at 2 rest)
+    prev ← prev_read ds (field_at 4 rest)
+    from ← vector_read ds (field_at 6 rest)
+    to ← vector_read ds (field_at 8 rest)
     Some (Precise from to (record { name = name; stamp = stamp; prev = prev; gone = gone }))
 
   unfoldable pub imprecise_of : List ℕ → Option Kind
   imprecise_of rest = do
-    target ← set_of (field_at 1 rest)
-    from ← vector_of ds (field_at 3 rest)
-    to ← vector_of ds (field_at 5 rest)
+    target ← target_read (field_at 1 rest)
+    from ← vector_read ds (field_at 3 rest)
+    to ← vector_read ds (field_at 5 rest)
     Some (Imprecise from to target)
 
   unfoldable pub checkpoint_of : List ℕ → Option Kind
   checkpoint_of rest = do
-    target ← set_of (field_at 1 rest)
-    to ← vector_of ds (field_at 3 rest)
-    floor ← vector_of ds (field_at 5 rest)
-    rows ← rows_of ds (field_at 7 rest)
+    target ← target_read (field_at 1 rest)
+    to ← vector_read ds (field_at 3 rest)
+    floor ← vector_read ds (field_at 5 rest)
+    rows ← rows_read ds (field_at 7 rest)
     Some (Checkpoint to target floor rows)
 
   unfoldable pub body_of : List ℕ → Option Kind
   body_of rest = do
     name ← name_of (field_at 1 rest)
-    stamp ← stamp_of ds (field_at 2 rest)
+    stamp ← stamp_read ds (field_at 2 rest)
     bytes ← value_of (last_text (field_at 3 rest))
     Some (Body name stamp bytes)
 
@@ -105,14 +105,14 @@ module _ (ds : List Decl) where
       cond (bytes_eq word (codes "body")) (body_of rest) None))))
 
   -- what stands behind a message's stream and number
-  abbrev pub kind_of : List ℕ → Option Kind
-  kind_of rest = kind_with (field_at 0 rest) rest
+  abbrev pub kind_read : List ℕ → Option Kind
+  kind_read rest = kind_with (field_at 0 rest) rest
 
   -- ---- answers
 
   unfoldable pub value_of_read : List ℕ → Option Reply
   value_of_read rest = do
-    stamp ← stamp_of ds (field_at 1 rest)
+    stamp ← stamp_read ds (field_at 1 rest)
     bytes ← value_of (last_text (field_at 2 rest))
     Some (replies.Value stamp bytes)
 
@@ -120,14 +120,14 @@ module _ (ds : List Decl) where
   reply_with word rest =
       cond (bytes_eq word (codes "never")) (Some replies.Never) (
       cond (bytes_eq word (codes "value")) (value_of_read rest) (
-      cond (bytes_eq word (codes "imprecise")) (stamp_of ds (field_at 1 rest) >>= λ p. Some (replies.Imprecise p)) (
-      cond (bytes_eq word (codes "body")) (stamp_of ds (field_at 1 rest) >>= λ p. Some (replies.Body p)) (
-      cond (bytes_eq word (codes "gone")) (stamp_of ds (field_at 1 rest) >>= λ p. Some (replies.Gone p)) None))))
+      cond (bytes_eq word (codes "imprecise")) (stamp_read ds (field_at 1 rest) >>= λ p. Some (replies.Imprecise p)) (
+      cond (bytes_eq word (codes "body")) (stamp_read ds (field_at 1 rest) >>= λ p. Some (replies.Body p)) (
+      cond (bytes_eq word (codes "gone")) (stamp_read ds (field_at 1 rest) >>= λ p. Some (replies.Gone p)) None))))
 
-  unfoldable pub found_of : List ℕ → Option Found
-  found_of rest =
-      cond (bytes_eq (field_at 0 rest) (codes "imprecise")) (stamp_of ds (field_at 1 rest) >>= λ p. Some (founds.Imprecise p))
-      (pairs_of ds (field_at 0 rest) >>= λ pairs. Some (founds.Pairs pairs))
+  unfoldable pub found_read : List ℕ → Option Found
+  found_read rest =
+      cond (bytes_eq (field_at 0 rest) (codes "imprecise")) (stamp_read ds (field_at 1 rest) >>= λ p. Some (founds.Imprecise p))
+      (pairs_read ds (field_at 0 rest) >>= λ pairs. Some (founds.Pairs pairs))
 
   -- ---- events
 
@@ -145,9 +145,9 @@ module _ (ds : List Decl) where
   wrote_with gone body line rest = do
     client ← client_at line
     name ← name_of (field_at 2 line)
-    stamp ← stamp_of ds (field_at 0 rest)
-    prev ← prev_of ds (field_at 2 rest)
-    after ← vector_of ds (field_at 4 rest)
+    stamp ← stamp_read ds (field_at 0 rest)
+    prev ← prev_read ds (field_at 2 rest)
+    after ← vector_read ds (field_at 4 rest)
     Some (Wrote client (record { name = name; stamp = stamp; prev = prev; gone = gone }) body after)
 
   unfoldable pub write_of : List ℕ → Option Event
@@ -161,14 +161,14 @@ module _ (ds : List Decl) where
   unfoldable pub attached_of : List ℕ → Option Event
   attached_of line = do
     stream ← stream_at line
-    at ← vector_of ds (field_at 3 line)
+    at ← vector_read ds (field_at 3 line)
     Some (Attached stream at)
 
   unfoldable pub sent_of : List ℕ → Option Event
   sent_of line = do
     stream ← stream_at line
     number ← count_at 2 line
-    kind ← kind_of (behind 3 line)
+    kind ← kind_read (behind 3 line)
     Some (Sent (msg_with stream number kind))
 
   unfoldable pub idle_of : List ℕ → Option Event
@@ -177,22 +177,22 @@ module _ (ds : List Decl) where
   unfoldable pub stale_of : List ℕ → Option Event
   stale_of line = do
     stream ← stream_at line
-    cut ← vector_of ds (field_at 3 line)
+    cut ← vector_read ds (field_at 3 line)
     Some (Stale stream cut)
 
   unfoldable pub accepted_of : List ℕ → Option Event
   accepted_of line = do
     stream ← stream_at line
     number ← count_at 2 line
-    at ← vector_of ds (field_at 4 line)
+    at ← vector_read ds (field_at 4 line)
     Some (Accepted (msg_with stream number (empty_from zero_vector)) at)
 
   unfoldable pub gapped_of : List ℕ → Option Event
   gapped_of line = do
     stream ← stream_at line
     number ← count_at 2 line
-    from ← vector_of ds (field_at 4 line)
-    has ← vector_of ds (field_at 6 line)
+    from ← vector_read ds (field_at 4 line)
+    has ← vector_read ds (field_at 6 line)
     Some (Gapped (msg_with stream number (empty_from from)) has)
 
   unfoldable pub missing_of : List ℕ → Option Event
@@ -204,7 +204,7 @@ module _ (ds : List Decl) where
   unfoldable pub down_of : List ℕ → Option Event
   down_of line = do
     stream ← stream_at line
-    cause ← cause_of (field_at 2 line)
+    cause ← cause_read (field_at 2 line)
     Some (Down stream cause)
 
   unfoldable pub answered_of : List ℕ → Option Event
@@ -212,31 +212,31 @@ module _ (ds : List Decl) where
     client ← client_at line
     name ← name_of (field_at 2 line)
     reply ← reply_with (field_at 3 line) (behind 3 line)
-    at ← vector_of ds (field_at (width_of reply + 4) line)
+    at ← vector_read ds (field_at (width_of reply + 4) line)
     Some (Answered client name reply at)
 
   unfoldable pub behind_of : List ℕ → Option Event
   behind_of line = do
     client ← client_at line
-    needs ← vector_of ds (field_at 3 line)
-    has ← vector_of ds (field_at 5 line)
+    needs ← vector_read ds (field_at 3 line)
+    has ← vector_read ds (field_at 5 line)
     Some (Behind client needs has)
 
   unfoldable pub cut_of : List ℕ → Option Event
-  cut_of line = vector_of ds (field_at 3 line) >>= λ at. Some (Cut at)
+  cut_of line = vector_read ds (field_at 3 line) >>= λ at. Some (Cut at)
 
   unfoldable pub conflicts_of : List ℕ → Option Event
   conflicts_of line = do
     name ← name_of (field_at 2 line)
-    found ← found_of (behind 3 line)
+    found ← found_read (behind 3 line)
     Some (Conflicts name found)
 
   unfoldable pub state_of : List ℕ → Option Event
   state_of line = do
-    at ← vector_of ds (field_at 3 line)
-    cut ← vector_of ds (field_at 5 line)
-    floor ← vector_of ds (field_at 7 line)
-    precise ← items_of (vector_of ds) (parts 32 (behind 9 line))
+    at ← vector_read ds (field_at 3 line)
+    cut ← vector_read ds (field_at 5 line)
+    floor ← vector_read ds (field_at 7 line)
+    precise ← items_of (vector_read ds) (parts 32 (behind 9 line))
     state_with at cut floor precise
 
   -- ---- lines

@@ -1,5 +1,5 @@
 // What nodes answer.
-ghost use Rattle.pr_check.specs.Events.{found_of, reply_with, value_of_read, width_of};
+ghost use Rattle.pr_check.specs.Events.{found_read, reply_with, value_of_read, width_of};
 ghost use Rattle.pr_check.specs.Fields.{Gives};
 ghost use Rattle.pr_script.specs.Labels.{AreLabels};
 ghost use Rattle.pr_story.specs.Counts.{HasFound, HasReply};
@@ -69,10 +69,10 @@ pub fn width_of(reply: &Reply) -> usize
 }
 
 /// The conflicts of a name.
-#[tactic(auto, unfolding(crate::specs::Events::found_of))]
+#[tactic(auto, unfolding(crate::specs::Events::found_read))]
 pub fn found(alloc: Global, decls: &[Decl], rest: &[u8]) -> Result<Found, Refusal>
     requires { AreLabels decls.now }
-    ensures reads { Gives result (found_of decls.now rest.now) }
+    ensures reads { Gives result (found_read decls.now rest.now) }
     ensures range { IfOk result IsFinding }
     ensures declared { IfOk result (HasFound (nodes_of decls.now)) }
 {

@@ -1,5 +1,5 @@
 // What messages tell.
-ghost use Rattle.pr_check.specs.Events.{body_of, checkpoint_of, imprecise_of, kind_of, kind_with, precise_of};
+ghost use Rattle.pr_check.specs.Events.{body_of, checkpoint_of, imprecise_of, kind_read, kind_with, precise_of};
 ghost use Rattle.pr_check.specs.Fields.{Gives};
 ghost use Rattle.pr_script.specs.Labels.{AreLabels};
 ghost use Rattle.pr_story.specs.Counts.{HasKind};
@@ -8,7 +8,7 @@ ghost use Rattle.pr_text.specs.Numbers.{nodes_of};
 ghost use Rattle.std.specs.Prelude.{◌≡◌, IfOk, IfSome};
 
 use crate::field::field_at;
-use crate::part::{set, text};
+use crate::part::{target, text};
 use crate::refusal::Refusal;
 use crate::row::rows;
 use crate::stamp::{prev, stamp};
@@ -21,7 +21,7 @@ use std::alloc::Global;
 #[tactic(auto, unfolding(crate::specs::Events::kind_with))]
 pub fn kind(alloc: Global, decls: &[Decl], rest: &[u8]) -> Result<Kind, Refusal>
     requires { AreLabels decls.now }
-    ensures reads { Gives result (kind_of decls.now rest.now) }
+    ensures reads { Gives result (kind_read decls.now rest.now) }
     ensures range { IfOk result IsKind }
     ensures declared { IfOk result (HasKind (nodes_of decls.now)) }
 {
@@ -73,7 +73,7 @@ fn imprecise(alloc: Global, decls: &[Decl], rest: &[u8]) -> Result<Kind, Refusal
     ensures range { IfOk result IsKind }
     ensures declared { IfOk result (HasKind (nodes_of decls.now)) }
 {
-    let target = set(alloc, field_at(1, rest))?;
+    let target = target(alloc, field_at(1, rest))?;
     let from = vector(decls, field_at(3, rest)).ok_or(Refusal::Unread)?;
     let to = vector(decls, field_at(5, rest)).ok_or(Refusal::Unread)?;
     Ok(Kind::Imprecise { from, to, target })
@@ -86,7 +86,7 @@ fn checkpoint(alloc: Global, decls: &[Decl], rest: &[u8]) -> Result<Kind, Refusa
     ensures range { IfOk result IsKind }
     ensures declared { IfOk result (HasKind (nodes_of decls.now)) }
 {
-    let target = set(alloc, field_at(1, rest))?;
+    let target = target(alloc, field_at(1, rest))?;
     let to = vector(decls, field_at(3, rest)).ok_or(Refusal::Unread)?;
     let floor = vector(decls, field_at(5, rest)).ok_or(Refusal::Unread)?;
     let rows = rows(alloc, decls, field_at(7, rest))?;

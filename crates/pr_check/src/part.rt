@@ -1,5 +1,5 @@
 // The parts of a field.
-ghost use Rattle.pr_check.specs.Parts.{after, before, is_hyphen, set_of};
+ghost use Rattle.pr_check.specs.Parts.{after, before, is_hyphen, target_read};
 ghost use Rattle.pr_check.specs.Fields.{Gives};
 ghost use Rattle.pr_script.specs.Fields.{value_of};
 ghost use Rattle.pr_script.specs.Labels.{AreLabels, number_among};
@@ -63,10 +63,10 @@ fn place(decls: &[Decl], kind: Kind, label: &[u8]) -> Option<usize>
         .position(|decl| label == label_of(decl))
 }
 
-/// The set that the bytes spell, of any count of intervals.
-#[tactic(auto, unfolding(crate::specs::Parts::set_of))]
-pub fn set(alloc: Global, bytes: &[u8]) -> Result<NameSet, Refusal>
-    ensures reads { Gives result (set_of bytes.now) }
+/// The target that the bytes spell, of any count of intervals.
+#[tactic(auto, unfolding(crate::specs::Parts::target_read))]
+pub fn target(alloc: Global, bytes: &[u8]) -> Result<NameSet, Refusal>
+    ensures reads { Gives result (target_read bytes.now) }
     ensures set { IfOk result IsSet }
 {
     match NameSet::read(alloc, bytes, bytes.len()) {

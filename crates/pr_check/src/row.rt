@@ -1,6 +1,6 @@
 // Rows of a checkpoint, and pairs of stamps in conflict.
 ghost use Rattle.pr_check.specs.Fields.{Gives, items_of, parts};
-ghost use Rattle.pr_check.specs.Parts.{is_gone, mark_of, pair_of, pairs_of, row_of, row_with, rows_of, sign_of};
+ghost use Rattle.pr_check.specs.Parts.{is_gone, mark_read, pair_read, pairs_read, row_read, row_with, rows_read, sign_of};
 ghost use Rattle.pr_script.specs.Labels.{AreLabels};
 ghost use Rattle.pr_stamps.specs.Point.{IsStamp};
 ghost use Rattle.pr_story.specs.Counts.{HasMark, HasPair, HasRow};
@@ -19,7 +19,7 @@ use std::alloc::Global;
 /// STAMP|STAMP joined by commas, or a hyphen.
 pub fn pairs(alloc: Global, decls: &[Decl], bytes: &[u8]) -> Result<Seq<(Stamp, Stamp)>, Refusal>
     requires { AreLabels decls.now }
-    ensures reads { Gives result (pairs_of decls.now bytes.now) }
+    ensures reads { Gives result (pairs_read decls.now bytes.now) }
     ensures range { IfOk result (All (λ p. IsStamp p.0 × IsStamp p.1)) }
     ensures declared { IfOk result (All (HasPair (nodes_of decls.now))) }
 {
@@ -31,7 +31,7 @@ pub fn pairs(alloc: Global, decls: &[Decl], bytes: &[u8]) -> Result<Seq<(Stamp, 
 
 fn some_pairs(alloc: Global, decls: &[Decl], bytes: &[u8]) -> Result<Seq<(Stamp, Stamp)>, Refusal>
     requires { AreLabels decls.now }
-    ensures reads { Gives result (items_of (pair_of decls.now) (parts 44 bytes.now)) }
+    ensures reads { Gives result (items_of (pair_read decls.now) (parts 44 bytes.now)) }
     ensures range { IfOk result (All (λ p. IsStamp p.0 × IsStamp p.1)) }
     ensures declared { IfOk result (All (HasPair (nodes_of decls.now))) }
 {
@@ -48,10 +48,10 @@ fn some_pairs(alloc: Global, decls: &[Decl], bytes: &[u8]) -> Result<Seq<(Stamp,
     Ok(pairs)
 }
 
-#[tactic(auto, unfolding(crate::specs::Parts::pair_of))]
+#[tactic(auto, unfolding(crate::specs::Parts::pair_read))]
 fn pair(decls: &[Decl], bytes: &[u8]) -> Option<(Stamp, Stamp)>
     requires { AreLabels decls.now }
-    ensures reads { result ≡ pair_of decls.now bytes.now }
+    ensures reads { result ≡ pair_read decls.now bytes.now }
     ensures range { IfSome result (λ p. IsStamp p.0 × IsStamp p.1) }
     ensures declared { IfSome result (HasPair (nodes_of decls.now)) }
 {
@@ -64,7 +64,7 @@ fn pair(decls: &[Decl], bytes: &[u8]) -> Option<(Stamp, Stamp)>
 /// Rows joined by commas, or a hyphen.
 pub fn rows(alloc: Global, decls: &[Decl], bytes: &[u8]) -> Result<Seq<Row>, Refusal>
     requires { AreLabels decls.now }
-    ensures reads { Gives result (rows_of decls.now bytes.now) }
+    ensures reads { Gives result (rows_read decls.now bytes.now) }
     ensures range { IfOk result (All IsRow) }
     ensures declared { IfOk result (All (HasRow (nodes_of decls.now))) }
 {
@@ -76,7 +76,7 @@ pub fn rows(alloc: Global, decls: &[Decl], bytes: &[u8]) -> Result<Seq<Row>, Ref
 
 fn some_rows(alloc: Global, decls: &[Decl], bytes: &[u8]) -> Result<Seq<Row>, Refusal>
     requires { AreLabels decls.now }
-    ensures reads { Gives result (items_of (row_of decls.now) (parts 44 bytes.now)) }
+    ensures reads { Gives result (items_of (row_read decls.now) (parts 44 bytes.now)) }
     ensures range { IfOk result (All IsRow) }
     ensures declared { IfOk result (All (HasRow (nodes_of decls.now))) }
 {
@@ -91,10 +91,10 @@ fn some_rows(alloc: Global, decls: &[Decl], bytes: &[u8]) -> Result<Seq<Row>, Re
 }
 
 // NAME=STAMP(MARKS), or NAME!STAMP(MARKS) for a delete.
-#[tactic(auto, unfolding(crate::specs::Parts::row_of))]
+#[tactic(auto, unfolding(crate::specs::Parts::row_read))]
 fn row(alloc: Global, decls: &[Decl], bytes: &[u8]) -> Result<Row, Refusal>
     requires { AreLabels decls.now }
-    ensures reads { Gives result (row_of decls.now bytes.now) }
+    ensures reads { Gives result (row_read decls.now bytes.now) }
     ensures range { IfOk result IsRow }
     ensures declared { IfOk result (HasRow (nodes_of decls.now)) }
 {
@@ -144,7 +144,7 @@ fn row_with(decls: &[Decl], written: &[u8], gone: bool, marks: Seq<Mark>) -> Res
 // Marks joined by semicolons.
 fn marks(alloc: Global, decls: &[Decl], bytes: &[u8]) -> Result<Seq<Mark>, Refusal>
     requires { AreLabels decls.now }
-    ensures reads { Gives result (items_of (mark_of decls.now) (parts 59 bytes.now)) }
+    ensures reads { Gives result (items_of (mark_read decls.now) (parts 59 bytes.now)) }
     ensures range { IfOk result (All (λ m. IsStamp m.stamp × IsStampOrNone m.prev)) }
     ensures declared { IfOk result (All (HasMark (nodes_of decls.now))) }
 {
@@ -162,10 +162,10 @@ fn marks(alloc: Global, decls: &[Decl], bytes: &[u8]) -> Result<Seq<Mark>, Refus
 }
 
 // STAMP<PREV.
-#[tactic(auto, unfolding(crate::specs::Parts::mark_of))]
+#[tactic(auto, unfolding(crate::specs::Parts::mark_read))]
 fn mark(decls: &[Decl], bytes: &[u8]) -> Option<Mark>
     requires { AreLabels decls.now }
-    ensures reads { result ≡ mark_of decls.now bytes.now }
+    ensures reads { result ≡ mark_read decls.now bytes.now }
     ensures range { IfSome result (λ m. IsStamp m.stamp × IsStampOrNone m.prev) }
     ensures declared { IfSome result (HasMark (nodes_of decls.now)) }
 {

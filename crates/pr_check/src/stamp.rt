@@ -1,5 +1,5 @@
 // Stamps.
-ghost use Rattle.pr_check.specs.Parts.{point_of, prev_of, stamp_of, stamp_with};
+ghost use Rattle.pr_check.specs.Parts.{point_read, prev_read, stamp_read, stamp_with};
 ghost use Rattle.pr_script.specs.Labels.{AreLabels};
 ghost use Rattle.pr_stamps.specs.Point.{IsStamp};
 ghost use Rattle.pr_story.specs.Counts.{HasPrev, HasStamp};
@@ -20,10 +20,10 @@ fn stamp_with(clock: u64, node: u32) -> Option<Stamp>
 }
 
 /// The stamp of a clock's digits and a node's label.
-#[tactic(auto, unfolding(crate::specs::Parts::point_of))]
+#[tactic(auto, unfolding(crate::specs::Parts::point_read))]
 pub fn point(decls: &[Decl], clock: &[u8], label: &[u8]) -> Option<Stamp>
     requires { AreLabels decls.now }
-    ensures reads { result ≡ point_of decls.now clock.now label.now }
+    ensures reads { result ≡ point_read decls.now clock.now label.now }
     ensures range { IfSome result IsStamp }
     ensures declared { IfSome result (HasStamp (nodes_of decls.now)) }
 {
@@ -35,10 +35,10 @@ pub fn point(decls: &[Decl], clock: &[u8], label: &[u8]) -> Option<Stamp>
 }
 
 /// CLOCK@LABEL.
-#[tactic(auto, unfolding(crate::specs::Parts::stamp_of))]
+#[tactic(auto, unfolding(crate::specs::Parts::stamp_read))]
 pub fn stamp(decls: &[Decl], bytes: &[u8]) -> Option<Stamp>
     requires { AreLabels decls.now }
-    ensures reads { result ≡ stamp_of decls.now bytes.now }
+    ensures reads { result ≡ stamp_read decls.now bytes.now }
     ensures range { IfSome result IsStamp }
     ensures declared { IfSome result (HasStamp (nodes_of decls.now)) }
 {
@@ -47,10 +47,10 @@ pub fn stamp(decls: &[Decl], bytes: &[u8]) -> Option<Stamp>
 }
 
 /// A stamp, or a hyphen.
-#[tactic(auto, unfolding(crate::specs::Parts::prev_of))]
+#[tactic(auto, unfolding(crate::specs::Parts::prev_read))]
 pub fn prev(decls: &[Decl], bytes: &[u8]) -> Option<Option<Stamp>>
     requires { AreLabels decls.now }
-    ensures reads { result ≡ prev_of decls.now bytes.now }
+    ensures reads { result ≡ prev_read decls.now bytes.now }
     ensures range { IfSome result IsStampOrNone }
     ensures declared { IfSome result (HasPrev (nodes_of decls.now)) }
 {

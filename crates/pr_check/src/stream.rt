@@ -1,5 +1,5 @@
 // The events of streams.
-ghost use Rattle.pr_check.specs.Events.{accepted_of, attached_of, cause_of, count_at, down_of, empty_from, gapped_of, idle_of, missing_of, msg_with, sent_of, stale_of, stream_at};
+ghost use Rattle.pr_check.specs.Events.{accepted_of, attached_of, cause_read, count_at, down_of, empty_from, gapped_of, idle_of, missing_of, msg_with, sent_of, stale_of, stream_at};
 ghost use Rattle.pr_check.specs.Fields.{Gives};
 ghost use Rattle.pr_check.specs.Lines.{IsTellable};
 ghost use Rattle.pr_script.specs.Labels.{AreLabels};
@@ -157,7 +157,7 @@ pub fn down(decls: &[Decl], line: &[u8]) -> Option<Event>
 }
 
 fn cause(word: &[u8]) -> Option<Cause>
-    ensures { result ≡ cause_of word.now }
+    ensures { result ≡ cause_read word.now }
 {
     if word == b"failed".as_slice() {
         Some(Cause::Failed)

@@ -1,6 +1,6 @@
 // Vectors.
 ghost use Rattle.pr_check.specs.Fields.{Gives, items_of, parts, read_each};
-ghost use Rattle.pr_check.specs.Parts.{vector_of, with_clock};
+ghost use Rattle.pr_check.specs.Parts.{vector_read, with_clock};
 ghost use Rattle.pr_script.specs.Labels.{AreLabels};
 ghost use Rattle.pr_story.specs.Counts.{HasVector};
 ghost use Rattle.pr_text.specs.Numbers.{nodes_of};
@@ -16,10 +16,10 @@ use pr_vectors::Vector;
 use std::alloc::Global;
 
 /// Clocks joined by commas, or a hyphen.
-#[tactic(auto, unfolding(crate::specs::Parts::vector_of))]
+#[tactic(auto, unfolding(crate::specs::Parts::vector_read))]
 pub fn vector(decls: &[Decl], bytes: &[u8]) -> Option<Vector>
     requires { AreLabels decls.now }
-    ensures reads { result ≡ vector_of decls.now bytes.now }
+    ensures reads { result ≡ vector_read decls.now bytes.now }
     ensures range { IfSome result IsVector }
     ensures declared { IfSome result (HasVector (nodes_of decls.now)) }
 {
@@ -76,7 +76,7 @@ fn with_clock(decls: &[Decl], vector: Vector, bytes: &[u8]) -> Option<Vector>
 /// Vectors joined by spaces.
 pub fn vectors(alloc: Global, decls: &[Decl], bytes: &[u8]) -> Result<Seq<Vector>, Refusal>
     requires { AreLabels decls.now }
-    ensures reads { Gives result (items_of (vector_of decls.now) (parts 32 bytes.now)) }
+    ensures reads { Gives result (items_of (vector_read decls.now) (parts 32 bytes.now)) }
     ensures range { IfOk result (All IsVector) }
     ensures declared { IfOk result (All (HasVector (nodes_of decls.now))) }
 {
