@@ -1,11 +1,11 @@
 // What a line is read as.
-ghost use Rattle.pr_check.specs.Events.{at_node, client_told, message_told, node_told, placed, stream_told, told_of};
+ghost use Rattle.pr_check.specs.Events.{at_node, client_told, message_told, node_told, stream_told, told_of};
 ghost use Rattle.pr_check.specs.Fields.{Gives};
 ghost use Rattle.pr_check.specs.Lines.{IsTellable, IsTellableAt};
 ghost use Rattle.pr_script.specs.Labels.{AreLabels};
 ghost use Rattle.pr_script.specs.declared.kind.Kind.TheVariants as kinds;
 ghost use Rattle.pr_text.specs.Numbers.{Has};
-ghost use Rattle.std.specs.Prelude.{◌≡◌, IfOk, IfSome};
+ghost use Rattle.std.specs.Prelude.{◌≡◌, IfOk};
 
 use crate::client::{answered, delete, moved, refused, write};
 use crate::field::field_at;
@@ -28,18 +28,6 @@ pub fn told(alloc: Global, decls: &[Decl], line: &[u8]) -> Result<Told, Refusal>
     stream_told(alloc, decls, field_at(0, line), line)
 }
 
-fn placed(decls: &[Decl], node: u32, event: Option<Event>) -> Result<Told, Refusal>
-    requires node { Has decls.now kinds.Node node }
-    requires tellable { IfSome event (IsTellable decls.now) }
-    ensures reads { Gives result (placed node event) }
-    ensures told { IfOk result (λ told. IsTellableAt decls.now told.node told.event) }
-{
-    match event {
-        Some(event) => Ok(Told { node, event }),
-        None => Err(Refusal::Unread),
-    }
-}
-
 #[tactic(auto, unfolding(crate::specs::Events::stream_told))]
 fn stream_told(alloc: Global, decls: &[Decl], word: &[u8], line: &[u8]) -> Result<Told, Refusal>
     requires labels { AreLabels decls.now }
@@ -48,16 +36,20 @@ fn stream_told(alloc: Global, decls: &[Decl], word: &[u8], line: &[u8]) -> Resul
     ensures told { IfOk result (λ told. IsTellableAt decls.now told.node told.event) }
 {
     if word == b"attach".as_slice() {
-        return placed(decls, 0, attached(decls, line));
+        let event = attached(decls, line).ok_or(Refusal::Unread)?;
+        return Ok(Told { node: 0, event });
     }
     if word == b"idle".as_slice() {
-        return placed(decls, 0, idle(decls, line));
+        let event = idle(decls, line).ok_or(Refusal::Unread)?;
+        return Ok(Told { node: 0, event });
     }
     if word == b"stale".as_slice() {
-        return placed(decls, 0, stale(decls, line));
+        let event = stale(decls, line).ok_or(Refusal::Unread)?;
+        return Ok(Told { node: 0, event });
     }
     if word == b"down".as_slice() {
-        return placed(decls, 0, down(decls, line));
+        let event = down(decls, line).ok_or(Refusal::Unread)?;
+        return Ok(Told { node: 0, event });
     }
     message_told(alloc, decls, word, line)
 }
@@ -74,13 +66,16 @@ fn message_told(alloc: Global, decls: &[Decl], word: &[u8], line: &[u8]) -> Resu
         return Ok(Told { node: 0, event });
     }
     if word == b"accept".as_slice() {
-        return placed(decls, 0, accepted(alloc, decls, line));
+        let event = accepted(alloc, decls, line).ok_or(Refusal::Unread)?;
+        return Ok(Told { node: 0, event });
     }
     if word == b"gap".as_slice() {
-        return placed(decls, 0, gapped(alloc, decls, line));
+        let event = gapped(alloc, decls, line).ok_or(Refusal::Unread)?;
+        return Ok(Told { node: 0, event });
     }
     if word == b"missing".as_slice() {
-        return placed(decls, 0, missing(decls, line));
+        let event = missing(decls, line).ok_or(Refusal::Unread)?;
+        return Ok(Told { node: 0, event });
     }
     client_told(alloc, decls, word, line)
 }
@@ -97,14 +92,16 @@ fn client_told(alloc: Global, decls: &[Decl], word: &[u8], line: &[u8]) -> Resul
         return Ok(Told { node: 0, event });
     }
     if word == b"delete".as_slice() {
-        return placed(decls, 0, delete(alloc, decls, line));
+        let event = delete(alloc, decls, line).ok_or(Refusal::Unread)?;
+        return Ok(Told { node: 0, event });
     }
     if word == b"read".as_slice() {
         let event = answered(alloc, decls, line)?;
         return Ok(Told { node: 0, event });
     }
     if word == b"behind".as_slice() {
-        return placed(decls, 0, refused(decls, line));
+        let event = refused(decls, line).ok_or(Refusal::Unread)?;
+        return Ok(Told { node: 0, event });
     }
     if word == b"move".as_slice() {
         return moved(decls, line).ok_or(Refusal::Unread);
@@ -133,7 +130,7 @@ fn at_node(alloc: Global, decls: &[Decl], word: &[u8], line: &[u8]) -> Result<Ev
         return cut(decls, line).ok_or(Refusal::Unread);
     }
     if word == b"drop".as_slice() {
-        return dropped(decls, line).ok_or(Refusal::Unread);
+        return dropped(line).ok_or(Refusal::Unread);
     }
     if word == b"conflicts".as_slice() {
         return conflicts(alloc, decls, line);

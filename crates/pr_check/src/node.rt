@@ -3,9 +3,10 @@ ghost use Rattle.pr_check.specs.Events.{conflicts_of, cut_of, dropped_of, node_a
 ghost use Rattle.pr_check.specs.Fields.{Gives};
 ghost use Rattle.pr_check.specs.Lines.{IsTellable};
 ghost use Rattle.pr_script.specs.Labels.{AreLabels};
+ghost use Rattle.pr_script.specs.declared.decl.Decl.{Decl as Declared};
 ghost use Rattle.pr_script.specs.declared.kind.Kind.TheVariants as kinds;
 ghost use Rattle.pr_text.specs.Numbers.{Has};
-ghost use Rattle.std.specs.Prelude.{◌≡◌, IfOk, IfSome};
+ghost use Rattle.std.specs.Prelude.{◌≡◌, IfOk, IfSome, List};
 
 use crate::answer::found;
 use crate::field::{behind, field_at};
@@ -36,9 +37,9 @@ pub fn cut(decls: &[Decl], line: &[u8]) -> Option<Event>
 }
 
 #[tactic(auto, unfolding(crate::specs::Events::dropped_of))]
-pub fn dropped(decls: &[Decl], line: &[u8]) -> Option<Event>
+pub fn dropped(line: &[u8]) -> Option<Event>
     ensures reads { result ≡ dropped_of line.now }
-    ensures tellable { IfSome result (IsTellable decls.now) }
+    ensures tellable { (ds : List Declared) → IfSome result (IsTellable ds) }
 {
     let name = name(field_at(2, line))?;
     let _ = name.bytes();

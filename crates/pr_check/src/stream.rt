@@ -5,9 +5,9 @@ ghost use Rattle.pr_check.specs.Lines.{IsTellable};
 ghost use Rattle.pr_script.specs.Labels.{AreLabels};
 ghost use Rattle.pr_story.specs.Counts.{HasKind, HasVector};
 ghost use Rattle.pr_story.specs.Ranges.{IsKind};
-ghost use Rattle.pr_text.specs.Numbers.{Has, nodes_of};
+ghost use Rattle.pr_text.specs.Numbers.{Has};
 ghost use Rattle.pr_script.specs.declared.kind.Kind.TheVariants as kinds;
-ghost use Rattle.std.specs.Prelude.{◌≡◌, IfOk, IfSome};
+ghost use Rattle.std.specs.Prelude.{◌≡◌, ℕ, IfOk, IfSome};
 
 use crate::field::{behind, field_at};
 use crate::message;
@@ -94,14 +94,13 @@ pub fn stale(decls: &[Decl], line: &[u8]) -> Option<Event>
 }
 
 // A message that tells nothing from here on.
-fn empty_from(alloc: Global, decls: &[Decl], from: Vector) -> Kind
-    requires { HasVector (nodes_of decls.now) from }
+fn empty_from(alloc: Global, from: Vector) -> Kind
     ensures value { result ≡ empty_from from }
     ensures range { IsKind result }
-    ensures declared { HasKind (nodes_of decls.now) result }
+    ensures declared { (nodes : ℕ) → HasVector nodes from → HasKind nodes result }
 {
     let _ = from.at(0);
-    let to = no_clocks(decls);
+    let to = no_clocks();
     let target = NameSet::empty(alloc);
     let _ = target.parts();
     Kind::Imprecise { from, to, target }
@@ -116,7 +115,7 @@ pub fn accepted(alloc: Global, decls: &[Decl], line: &[u8]) -> Option<Event>
     let stream = stream_at(decls, line)?;
     let number = count_at(line)?;
     let at = vector(decls, field_at(4, line))?;
-    let msg = msg_with(stream, number, empty_from(alloc, decls, no_clocks(decls)));
+    let msg = msg_with(stream, number, empty_from(alloc, no_clocks()));
     Some(Event::Accepted { msg, at })
 }
 
@@ -130,7 +129,7 @@ pub fn gapped(alloc: Global, decls: &[Decl], line: &[u8]) -> Option<Event>
     let number = count_at(line)?;
     let from = vector(decls, field_at(4, line))?;
     let has = vector(decls, field_at(6, line))?;
-    let msg = msg_with(stream, number, empty_from(alloc, decls, from));
+    let msg = msg_with(stream, number, empty_from(alloc, from));
     Some(Event::Gapped { msg, has })
 }
 

@@ -5,7 +5,7 @@ ghost use Rattle.pr_script.specs.Labels.{AreLabels};
 ghost use Rattle.pr_story.specs.Counts.{HasVector};
 ghost use Rattle.pr_text.specs.Numbers.{nodes_of};
 ghost use Rattle.pr_vectors.specs.Vector.{IsVector, zero_vector};
-ghost use Rattle.std.specs.Prelude.{◌≡◌, All, IfOk, IfSome};
+ghost use Rattle.std.specs.Prelude.{◌≡◌, ℕ, All, IfOk, IfSome};
 
 use crate::part::{cut, is_hyphen};
 use crate::refusal::Refusal;
@@ -24,16 +24,16 @@ pub fn vector(decls: &[Decl], bytes: &[u8]) -> Option<Vector>
     ensures declared { IfSome result (HasVector (nodes_of decls.now)) }
 {
     if is_hyphen(bytes) {
-        return Some(no_clocks(decls));
+        return Some(no_clocks());
     }
     clocks(decls, bytes)
 }
 
 /// The zero vector.
-pub fn no_clocks(decls: &[Decl]) -> Vector
+pub fn no_clocks() -> Vector
     ensures zero { result ≡ zero_vector }
     ensures range { IsVector result }
-    ensures declared { HasVector (nodes_of decls.now) result }
+    ensures declared { (nodes : ℕ) → HasVector nodes result }
 {
     let vector = Vector::zero();
     let _ = vector.at(0);
@@ -46,7 +46,7 @@ fn clocks(decls: &[Decl], bytes: &[u8]) -> Option<Vector>
     ensures range { IfSome result IsVector }
     ensures declared { IfSome result (HasVector (nodes_of decls.now)) }
 {
-    let mut vector = no_clocks(decls);
+    let mut vector = no_clocks();
     let mut rest = bytes;
     while !rest.is_empty() {
         let (part, more) = cut(b',', rest);
