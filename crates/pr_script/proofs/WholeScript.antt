@@ -150,7 +150,7 @@ lines_of f = script_lines (script_of f)
 abbrev Begun : Sofar → Type 0
 Begun f = f.known.begun ≡ false → f.commands ≡ []
 
-push_decl : (front ds : List Decl) (d : Decl) → decl_lines front (ds ++ d ∷ []) ≡ decl_lines front ds ++ decl_text (front ++ ds) d ∷ []
+pub push_decl : (front ds : List Decl) (d : Decl) → decl_lines front (ds ++ d ∷ []) ≡ decl_lines front ds ++ decl_text (front ++ ds) d ∷ []
 unfolding decl_lines
 push_decl front [] d = ap (λ (x : List Decl). decl_text x d ∷ []) (sym (append-nil front))
 push_decl front (e ∷ ds) d =

@@ -37,16 +37,19 @@ mod word;
 pub use command::Command;
 pub use decl::{Decl, Decls};
 pub use fault::ScriptFault;
+pub use fields::name;
 pub use kind::Kind;
 pub use labels::{is_kind, label_at, label_of};
 pub use law::{
     accepted_scripts_are_good, labels_tell_declarations_apart, printed_scripts_read_back,
     scripts_have_one_meaning, sets_share_a_name_where_intervals_overlap, steps_follow_the_commands,
 };
+pub use number::number_within;
 pub use owner::{Owner, is_same_owner, owner_of, owners, phase_len};
 pub use pr_stamps::Bytes;
 pub use printer::{print, print_decls};
 pub use reader::{Reader, read};
 pub use script::Script;
 pub use spelling::{hex_digit, print_text};
+pub use text::read_text;
 pub use want::Want;

@@ -1,12 +1,12 @@
 // Quoted texts.
-ghost use Rattle.pr_script.specs.Fields.{Gives};
+ghost use Rattle.pr_script.specs.Fields.{Gives, value_of};
 ghost use Rattle.pr_script.specs.Texts.{byte_at, escape_at, hex_value, is_bare, is_hex, last_text, text_at};
 ghost use Rattle.std.specs.Prelude.{◌≡◌, ◌<◌, IfOk, IfSome, None, Ok, Some, if◌then◌else◌, length};
 
 use crate::Bytes;
 use crate::fields::{blank, unspaced};
 use crate::refusal::Refusal;
-use pr_stamps::Seq;
+use pr_stamps::{NoMemory, Seq};
 use std::alloc::Global;
 
 /// Whether the byte stands for itself in a text.
@@ -99,6 +99,17 @@ pub fn end_text(alloc: Global, bytes: &[u8]) -> Result<Bytes, Refusal>
             Ok(out)
         }
         _ => Err(Refusal::Why(3)),
+    }
+}
+
+/// The text that the bytes quote, if they are a quoted text, in time linear in them.
+pub fn read_text(alloc: Global, bytes: &[u8]) -> Result<Option<Bytes>, NoMemory>
+    ensures { IfOk result (λ text. text ≡ value_of (last_text bytes.now)) }
+{
+    match end_text(alloc, bytes) {
+        Ok(text) => Ok(Some(text)),
+        Err(Refusal::Why(_)) => Ok(None),
+        Err(Refusal::NoMemory) => Err(NoMemory),
     }
 }
 

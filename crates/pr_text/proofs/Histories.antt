@@ -23,7 +23,7 @@ use Rattle.pr_text.proofs.Items.{nothing_here}
 use Rattle.pr_text.proofs.Fields.{AllLack, ended, ended_more, lack_more, last_same, lines_same, sentence_lacks, sentence_same}
 use Rattle.pr_text.proofs.Messages.{at_0, at_1}
 use Rattle.pr_text.proofs.Same.{label_same}
-use Rattle.pr_text.proofs.Sentences.{HasNoBody, IsTold, event_closed, place, same_place, say_same, word_plain}
+use Rattle.pr_text.proofs.Sentences.{HasNoBody, IsTold, event_closed, place, same_place, say_same, shown, word_plain}
 
 -- ---- what an event names
 
@@ -114,7 +114,7 @@ module _ (ds : List Decl) (a : AreLabels ds) (plan : Plan) where
   text_said (e ∷ h) = ap (λ (t : List ℕ). t ++ line_text ds e.node e.entry.event) (text_said h) ∙ sym (ended_more (said h) (sentence ds e.node e.entry.event))
 
   line_lacks : (e : NodeEntry) → IsTold ds e.node e.entry.event → Lacks 10 (sentence ds e.node e.entry.event)
-  line_lacks e t = sentence_lacks (word_of e.entry.event) (fields_of ds e.node e.entry.event) (word_plain e.entry.event) (event_closed ds a e.node e.entry.event t)
+  line_lacks e t = sentence_lacks (word_of e.entry.event) (fields_of ds e.node e.entry.event) (word_plain e.entry.event) (event_closed ds a e.node e.entry.event (shown ds e.node e.entry.event t))
 
   said_lack : (h : List NodeEntry) → Valid plan h → AllNamed (counts_of ds) h → AllLack (said h)
   unfolding said
@@ -137,7 +137,7 @@ module _ (ds : List Decl) (a : AreLabels ds) (plan : Plan) where
       let s = told h x v.0 d.0 d.1 in
       let t = told g y w.0 k.0 k.1 in
       let parts = sentence_same (word_of x.entry.event) (word_of y.entry.event) (fields_of ds x.node x.entry.event) (fields_of ds y.node y.entry.event)
-      (word_plain x.entry.event) (word_plain y.entry.event) (event_closed ds a x.node x.entry.event s) (event_closed ds a y.node y.entry.event t) last.1 in
+      (word_plain x.entry.event) (word_plain y.entry.event) (event_closed ds a x.node x.entry.event (shown ds x.node x.entry.event s)) (event_closed ds a y.node y.entry.event (shown ds y.node y.entry.event t)) last.1 in
       let o = same_place x.entry.event y.entry.event parts.0 in
       let say = say_same ds a x.node y.node x.entry.event y.entry.event s t parts.0 parts.1 in
       let node = node_same h g rest.1 x.node y.node x.entry.event y.entry.event s t v.0.placed w.0.placed o say parts.1 in

@@ -46,7 +46,7 @@ no_end : (y r : List ℕ) → y ++ r ≡ [] → y ≡ []
 no_end [] r e = refl
 no_end (c ∷ y) r e = nothing_there c (y ++ r) e
 
-no_hyphen : (y r : List ℕ) → (y ≡ [] → ⊥) → (y ≡ 45 ∷ [] → ⊥) → 45 ∷ [] ≡ y ++ r → ⊥
+pub no_hyphen : (y r : List ℕ) → (y ≡ [] → ⊥) → (y ≡ 45 ∷ [] → ⊥) → 45 ∷ [] ≡ y ++ r → ⊥
 no_hyphen [] r n h e = n refl
 no_hyphen (c ∷ y) r n h e =
     let b : (45 ≡ c) × ([] ≡ y ++ r) = both_same 45 c [] (y ++ r) e in

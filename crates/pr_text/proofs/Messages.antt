@@ -92,13 +92,16 @@ module _ (ds : List Decl) (a : AreLabels ds) where
   mark_in : (m : Mark) → MarkRange m → HasMark (nodes_of ds) m → IsMarkIn ds a m
   mark_in m r h = ((r.0, h.0), prev_is m.prev r.1 h.1)
 
-  row_in : (r : Row) → IsRow r → HasRow (nodes_of ds) r → IsRowIn ds a r
-  row_in r i h = (i.0, (i.1, h.0), all_both MarkRange (HasMark (nodes_of ds)) (IsMarkIn ds a) mark_in r.marks i.2 h.1)
+  pub marks_in : (ms : List Mark) → All (λ (m : Mark). IsStamp m.stamp × IsStampOrNone m.prev) ms → All (HasMark (nodes_of ds)) ms → All (IsMarkIn ds a) ms
+  marks_in ms i h = all_both MarkRange (HasMark (nodes_of ds)) (IsMarkIn ds a) mark_in ms i h
 
-  rows_in : (rows : List Row) → All IsRow rows → All (HasRow (nodes_of ds)) rows → All (IsRowIn ds a) rows
+  row_in : (r : Row) → IsRow r → HasRow (nodes_of ds) r → IsRowIn ds a r
+  row_in r i h = (i.0, (i.1, h.0), marks_in r.marks i.2 h.1)
+
+  pub rows_in : (rows : List Row) → All IsRow rows → All (HasRow (nodes_of ds)) rows → All (IsRowIn ds a) rows
   rows_in rows i h = all_both IsRow (HasRow (nodes_of ds)) (IsRowIn ds a) row_in rows i h
 
-  pairs_in : (ps : List (Point × Point)) → All (λ (p : Point × Point). IsStamp p.0 × IsStamp p.1) ps → All (λ (p : Point × Point). HasPair (nodes_of ds) p) ps → All (IsPairIn ds a) ps
+  pub pairs_in : (ps : List (Point × Point)) → All (λ (p : Point × Point). IsStamp p.0 × IsStamp p.1) ps → All (λ (p : Point × Point). HasPair (nodes_of ds) p) ps → All (IsPairIn ds a) ps
   pairs_in ps i h = all_both (λ (p : Point × Point). IsStamp p.0 × IsStamp p.1) (λ (p : Point × Point). HasPair (nodes_of ds) p) (IsPairIn ds a) (λ p r k. ((r.0, k.0), (r.1, k.1))) ps i h
 
   -- ---- closed fields

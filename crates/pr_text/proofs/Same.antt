@@ -152,10 +152,10 @@ prev_of r ds a (Some p) s d l at hyphen = stamp_of r ds a p s.0 s.1 d l at
 
 -- ---- vectors
 
-abbrev AllLabels : List (List ℕ) → Type 0
+abbrev pub AllLabels : List (List ℕ) → Type 0
 AllLabels ls = AllByRecursion (λ l. is_label l ≡ true) ls
 
-abbrev clock_text : List ℕ → ℕ → List ℕ
+abbrev pub clock_text : List ℕ → ℕ → List ℕ
 clock_text l c = l ++ 58 ∷ decimal c
 
 clock_cut : (l m : List ℕ) (c d : ℕ) → is_label l ≡ true → is_label m ≡ true → clock_text l c ≡ clock_text m d → (l ≡ m) × (decimal c ≡ decimal d)
@@ -202,13 +202,13 @@ clocks_same (l ∷ ls) w u v a d p q e i lo hi =
 abbrev pub IsDeclaredVector : List Decl → List ℕ → Type 0
 IsDeclaredVector ds v = IsVector v × ((n : ℕ) → length (labels_of kinds.Node ds) ≤ n → clock_of v n ≡ 0)
 
-small_clocks : (ds : List Decl) → AreLabels ds → (v : List ℕ) → IsDeclaredVector ds v → (n : ℕ) → clock_of v n < 2 ^ 64
+pub small_clocks : (ds : List Decl) → AreLabels ds → (v : List ℕ) → IsDeclaredVector ds v → (n : ℕ) → clock_of v n < 2 ^ 64
 small_clocks ds a v d n = elim (cases_lt n 32) [
   | inl k ↦ omega (arith, d.0.most n k)
   | inr k ↦ let z = d.1 n (omega (arith, a.few kinds.Node, k)) in omega (arith, z)
 ]
 
-AllItems : (ls : List (List ℕ)) (w : ℕ) (v : List ℕ) → AllLabels ls → ((n : ℕ) → clock_of v n < 2 ^ 64) → AreItems 44 (clocks ls w v)
+pub AllItems : (ls : List (List ℕ)) (w : ℕ) (v : List ℕ) → AllLabels ls → ((n : ℕ) → clock_of v n < 2 ^ 64) → AreItems 44 (clocks ls w v)
 AllItems [] w v a p = tt
 AllItems (l ∷ ls) w v a p = by (nat_eq (clock_of v w) 0) (AllItems ls (w + 1) v a.1 p)
   where

@@ -51,7 +51,7 @@ joiner s b (inr l) = (λ e. grind (arith, nat_tests), λ e. grind (arith, nat_te
 pub takes_plain : Takes is_plain
 takes_plain = record { digits = digits_plain; letters = letters_plain; at = refl; hyphen = refl }
 
-takes_low : (s : ℕ) → s < 45 → Takes (is_not s)
+pub takes_low : (s : ℕ) → s < 45 → Takes (is_not s)
 takes_low s l = record {
   digits = λ b. (joiner s b (inl l)).0;
   letters = λ b. (joiner s b (inl l)).1;
@@ -59,7 +59,7 @@ takes_low s l = record {
   hyphen = grind (arith, nat_tests);
 }
 
-takes_mid : (s : ℕ) → 57 < s → s < 64 → Takes (is_not s)
+pub takes_mid : (s : ℕ) → 57 < s → s < 64 → Takes (is_not s)
 takes_mid s l m = record {
   digits = λ b. (joiner s b (inr (l, m))).0;
   letters = λ b. (joiner s b (inr (l, m))).1;
@@ -73,7 +73,7 @@ bar_digits b e = grind (arith, nat_tests)
 bar_letters : (b : ℕ) → alnum b ≡ true → is_not 124 b ≡ true
 bar_letters b e = grind (arith, nat_tests)
 
-takes_bar : Takes (is_not 124)
+pub takes_bar : Takes (is_not 124)
 takes_bar = record { digits = bar_digits; letters = bar_letters; at = refl; hyphen = refl }
 
 module _ (ds : List Decl) (a : AreLabels ds) where
@@ -105,14 +105,14 @@ module _ (ds : List Decl) (a : AreLabels ds) where
       ap (λ (s : Point). let k : Mark = record { stamp = s; prev = m.prev } in k) (one_stamp m.stamp n.stamp i.0 j.0 c.0)
       ∙ ap (λ (p : Option Point). let k : Mark = record { stamp = n.stamp; prev = p } in k) (prev_same ds a m.prev n.prev i.1 j.1 c.1)
 
-  mark_item : (m : Mark) → IsMarkIn m → IsItem 59 (mark_text ds m)
+  pub mark_item : (m : Mark) → IsMarkIn m → IsItem 59 (mark_text ds m)
   mark_item m i = record {
     lacks = mark_of (is_not 59) (takes_mid 59 (omega arith) (omega arith)) refl m i;
     some = not_empty (stamp_text ds m.stamp) 60 (prev_text ds m.prev);
     shown = not_hyphen (stamp_text ds m.stamp) 60 (prev_text ds m.prev) (λ k. absurd (omega (arith, k)));
   }
 
-  marks_of : (r : ℕ → Bool) → Takes r → r 60 ≡ true → r 59 ≡ true → (ms : List Mark) → All IsMarkIn ms → IsOf r (joined 59 (map (mark_text ds) ms))
+  pub marks_of : (r : ℕ → Bool) → Takes r → r 60 ≡ true → r 59 ≡ true → (ms : List Mark) → All IsMarkIn ms → IsOf r (joined 59 (map (mark_text ds) ms))
   marks_of r t l s ms i = of_joined r 59 (map (mark_text ds) ms) s (map_of r (mark_text ds) IsMarkIn (mark_of r t l) ms i)
 
   marks_same : (ms ns : List Mark) → All IsMarkIn ms → All IsMarkIn ns → joined 59 (map (mark_text ds) ms) ≡ joined 59 (map (mark_text ds) ns) → ms ≡ ns
@@ -177,7 +177,7 @@ module _ (ds : List Decl) (a : AreLabels ds) where
   comma_name : (b : ℕ) → allowed b ≡ true → is_not 44 b ≡ true
   comma_name b h = grind (arith, nat_tests)
 
-  row_item : (row : Row) → IsRowIn row → IsItem 44 (row_text ds row)
+  pub row_item : (row : Row) → IsRowIn row → IsItem 44 (row_text ds row)
   row_item row i = record {
     lacks = row_of (is_not 44) (takes_low 44 (omega arith)) comma_name refl refl refl refl refl refl row i;
     some = not_empty row.name (sign row.gone) (behind_name row);
@@ -206,7 +206,7 @@ module _ (ds : List Decl) (a : AreLabels ds) where
       ap (λ (k : Point). let r : Point × Point = (k, p.1) in r) (one_stamp p.0 q.0 i.0 j.0 c.0)
       ∙ ap (λ (k : Point). let r : Point × Point = (q.0, k) in r) (one_stamp p.1 q.1 i.1 j.1 c.1)
 
-  pair_item : (p : Point × Point) → IsPairIn p → IsItem 44 (pair_text ds p)
+  pub pair_item : (p : Point × Point) → IsPairIn p → IsItem 44 (pair_text ds p)
   pair_item p i = record {
     lacks = pair_of (is_not 44) (takes_low 44 (omega arith)) refl p i;
     some = not_empty (stamp_text ds p.0) 124 (stamp_text ds p.1);

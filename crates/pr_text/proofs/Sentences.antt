@@ -98,11 +98,20 @@ abbrev pub HasNoBody : Event → Type 0
 HasNoBody (Wrote client write body after) = IsTrue write.gone → body ≡ []
 HasNoBody e = Unit {0}
 
+-- the event's values are such as their types allow, and it names what is declared alone
+pub record IsShown (ds : List Decl) (n : ℕ) (e : Event) : Type 0 where
+  pub node : Has ds kinds.Node n
+  pub range : IsInRange e
+  pub numbers : HasEvent (counts_of ds) e
+
 pub record IsTold (ds : List Decl) (n : ℕ) (e : Event) : Type 0 where
   pub node : Has ds kinds.Node n
   pub range : IsInRange e
   pub numbers : HasEvent (counts_of ds) e
   pub body : HasNoBody e
+
+pub shown : (ds : List Decl) (n : ℕ) (e : Event) → IsTold ds n e → IsShown ds n e
+shown ds n e t = record { node = t.node; range = t.range; numbers = t.numbers }
 
 -- ---- closed fields
 
@@ -166,7 +175,7 @@ module _ (ds : List Decl) (a : AreLabels ds) where
   vectors_closed [] i h = tt
   vectors_closed (v ∷ vs) i h = (vector_closed ds a v (All-head IsVector v vs i) (All-head (HasVector (nodes_of ds)) v vs h), vectors_closed vs (All-tail IsVector v vs i) (All-tail (HasVector (nodes_of ds)) v vs h))
 
-  pub event_closed : (n : ℕ) (e : Event) → IsTold ds n e → AllClosed (fields_of ds n e)
+  pub event_closed : (n : ℕ) (e : Event) → IsShown ds n e → AllClosed (fields_of ds n e)
   event_closed n (Wrote client write body after) t = (
     label_closed kinds.Client client t.numbers.0,
     (

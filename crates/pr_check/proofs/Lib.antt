@@ -1,0 +1,16 @@
+pub mod FieldLoops
+pub mod Cuts
+pub mod Numbers
+pub mod PartLoops
+pub mod VectorLoops
+pub mod FieldsAgain
+pub mod PartsAgain
+pub mod StampsAgain
+pub mod VectorsAgain
+pub mod RowsAgain
+pub mod ReadAgain
+pub mod KindsAgain
+pub mod EventsAgain
+pub mod LineRead
+pub mod HeadLines
+pub mod Given

@@ -1,0 +1,62 @@
+// What a line says.
+ghost use Rattle.pr_check.specs.Events.{said_if};
+ghost use Rattle.pr_check.specs.Lines.{Says};
+ghost use Rattle.pr_script.specs.Labels.{AreLabels};
+ghost use Rattle.pr_script.specs.declared.kind.Kind.TheVariants as kinds;
+ghost use Rattle.pr_text.specs.Numbers.{Has};
+ghost use Rattle.std.specs.Prelude.{◌≡◌, ◌↔◌, IfOk, IsTrue};
+
+use crate::event::told;
+use crate::refusal::Refusal;
+use crate::said::{Said, said_of};
+use crate::told::Told;
+use pr_script::{Decl, Decls, Kind, label_at};
+use pr_stamps::{NoMemory, Seq};
+use pr_text::line as print_line;
+use std::alloc::Global;
+
+/// What a line, without its end, says that was asked for; None where it is no event's line. Its fields are read by their
+/// places, and the event that they make is printed again and compared with the line. It takes time linear in the line, a
+/// few times over, and for each label in it linear in the declarations.
+pub fn read_line(alloc: Global, decls: &Decls, line: &[u8]) -> Result<Option<Said>, NoMemory>
+    requires { AreLabels decls.now.list }
+    ensures { IfOk result (Says decls.now.list line.now) }
+{
+    let list = decls.list.as_slice();
+    if !has_node(list) {
+        return Ok(None);
+    }
+    match told(alloc, list, line) {
+        Ok(told) => said_if_printed(alloc, decls, told, line),
+        Err(Refusal::Unread) => Ok(None),
+        Err(Refusal::NoMemory) => Err(NoMemory),
+    }
+}
+
+// Whether a node is declared.
+fn has_node(decls: &[Decl]) -> bool
+    requires { AreLabels decls.now }
+    ensures { IsTrue result ↔ Has decls.now kinds.Node 0 }
+{
+    !label_at(decls, Kind::Node, 0).is_empty()
+}
+
+// What the event says, where the line is its line.
+fn said_if_printed(
+    alloc: Global,
+    decls: &Decls,
+    told: Told,
+    line: &[u8],
+) -> Result<Option<Said>, NoMemory>
+    ensures { IfOk result (λ said. said ≡ said_if decls.now.list told.node told.event line.now) }
+{
+    let Told { node, event } = told;
+    let mut text = Seq::new(alloc);
+    print_line(alloc, decls, node, &event, &mut text)?;
+    text.truncate(text.len() - 1);
+    if text.as_slice() == line {
+        Ok(Some(said_of(node, event)))
+    } else {
+        Ok(None)
+    }
+}
