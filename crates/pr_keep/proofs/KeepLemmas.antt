@@ -64,8 +64,8 @@ torn_behind file c es count s torn = record {
   behind = drop (length (front es) + 1) c;
   closed = s.closed;
   is = sym (take-append-drop (length (front es) + 1) c)
-  ∙ ap (λ (t : List ℕ). t ++ drop (length (front es) + 1) c) (torn.before ∙ with_gate file es s)
-  ∙ append_assoc (front es) (s.gate ∷ []) (drop (length (front es) + 1) c);
+      ∙ ap (λ (t : List ℕ). t ++ drop (length (front es) + 1) c) (torn.before ∙ with_gate file es s)
+      ∙ append_assoc (front es) (s.gate ∷ []) (drop (length (front es) + 1) c);
 }
 
 pub staged : (file : List ℕ) (es : List (ℕ × Entry)) (e : ℕ × Entry) → StandsFor file es → IsKeepable e → IsStaged es e (written (length (front es) + 1) (counted_text (entry_text e) ++ 0 ∷ []) file)
@@ -79,8 +79,8 @@ staged file es e s keepable =
       behind = rest;
       closed = s.closed;
       is = ap (λ (t : List ℕ). t ++ (bytes ++ rest)) (with_gate file es s)
-      ∙ append_assoc (front es) (s.gate ∷ []) (bytes ++ rest)
-      ∙ ap (λ (t : List ℕ). front es ++ s.gate ∷ t) (append_assoc (counted_text (entry_text e)) (0 ∷ []) rest);
+          ∙ append_assoc (front es) (s.gate ∷ []) (bytes ++ rest)
+          ∙ ap (λ (t : List ℕ). front es ++ s.gate ∷ t) (append_assoc (counted_text (entry_text e)) (0 ∷ []) rest);
     }
 
 pub staged_stands : (file : List ℕ) (es : List (ℕ × Entry)) (e : ℕ × Entry) → IsStaged es e file → StandsFor file es
@@ -97,10 +97,10 @@ either es e gate behind c each keepable is = elim (cases_eq gate 1) [
     behind = behind;
     closed = λ e. absurd (omega (arith, e));
     is = is
-    ∙ ap (λ (g : ℕ). front es ++ g ∷ (counted_text (entry_text e) ++ 0 ∷ behind)) opened
-    ∙ ap (λ (t : List ℕ). front es ++ (t ++ 0 ∷ behind)) (sym (record_split e))
-    ∙ sym (append_assoc (front es) (record_text e) (0 ∷ behind))
-    ∙ ap (λ (t : List ℕ). t ++ 0 ∷ behind) (sym (front_more es e));
+        ∙ ap (λ (g : ℕ). front es ++ g ∷ (counted_text (entry_text e) ++ 0 ∷ behind)) opened
+        ∙ ap (λ (t : List ℕ). front es ++ (t ++ 0 ∷ behind)) (sym (record_split e))
+        ∙ sym (append_assoc (front es) (record_text e) (0 ∷ behind))
+        ∙ ap (λ (t : List ℕ). t ++ 0 ∷ behind) (sym (front_more es e));
   })
   | inr shut ↦ inl (record { each = each; gate = gate; behind = counted_text (entry_text e) ++ 0 ∷ behind; closed = shut; is = is })
 ]
@@ -110,7 +110,7 @@ at_gate file es e s =
     let behind = counted_text (entry_text e) ++ 0 ∷ s.behind in (
       ap (take (length (front es))) s.is ∙ take_at (front es) (s.gate ∷ behind) (length (front es)) refl,
       ap (drop (length (front es) + 1)) (s.is ∙ sym (append_assoc (front es) (s.gate ∷ []) behind))
-      ∙ drop_at (front es ++ s.gate ∷ []) behind (length (front es) + 1) (omega (arith, length-append (front es) (s.gate ∷ []))),
+          ∙ drop_at (front es ++ s.gate ∷ []) behind (length (front es) + 1) (omega (arith, length-append (front es) (s.gate ∷ []))),
     )
 
 length-staged : (file : List ℕ) (es : List (ℕ × Entry)) (e : ℕ × Entry) (s : IsStaged es e file) → length (front es) < length file
@@ -123,9 +123,9 @@ torn_gate file c es e s torn =
     let behind : drop (length (front es)) c ≡ gate ∷ (counted_text (entry_text e) ++ 0 ∷ s.behind) =
     drop_more c (length (front es)) 0 (omega (arith, length-staged file es e s, torn.no_shorter)) ∙ ap (λ (t : List ℕ). gate ∷ t) (torn.after ∙ place.1) in
     either es e gate s.behind c s.each s.keepable (
-      sym (take-append-drop (length (front es)) c)
-      ∙ ap (λ (t : List ℕ). t ++ drop (length (front es)) c) (torn.before ∙ place.0)
-      ∙ ap (λ (t : List ℕ). front es ++ t) behind
+    sym (take-append-drop (length (front es)) c)
+    ∙ ap (λ (t : List ℕ). t ++ drop (length (front es)) c) (torn.before ∙ place.0)
+    ∙ ap (λ (t : List ℕ). front es ++ t) behind
     )
 
 pub opened : (file : List ℕ) (es : List (ℕ × Entry)) (e : ℕ × Entry) → IsStaged es e file → StandsFor (written (length (front es)) (1 ∷ []) file) (es ++ e ∷ [])
@@ -137,10 +137,10 @@ opened file es e s =
       behind = s.behind;
       closed = λ e. absurd (omega (arith, e));
       is = ap (λ (t : List ℕ). t ++ (1 ∷ drop (length (front es) + 1) file)) place.0
-      ∙ ap (λ (t : List ℕ). front es ++ (1 ∷ t)) place.1
-      ∙ ap (λ (t : List ℕ). front es ++ (t ++ 0 ∷ s.behind)) (sym (record_split e))
-      ∙ sym (append_assoc (front es) (record_text e) (0 ∷ s.behind))
-      ∙ ap (λ (t : List ℕ). t ++ 0 ∷ s.behind) (sym (front_more es e));
+          ∙ ap (λ (t : List ℕ). front es ++ (1 ∷ t)) place.1
+          ∙ ap (λ (t : List ℕ). front es ++ (t ++ 0 ∷ s.behind)) (sym (record_split e))
+          ∙ sym (append_assoc (front es) (record_text e) (0 ∷ s.behind))
+          ∙ ap (λ (t : List ℕ). t ++ 0 ∷ s.behind) (sym (front_more es e));
     }
 
 -- the gate of before lies within, and the next one behind the record
@@ -181,9 +181,9 @@ one_more file es at r f h =
     record {
       each = each_more IsKeepable es r.entry f.each h.keepable;
       is = f.is
-      ∙ ap (λ (t : List ℕ). front es ++ t) (h.is ∙ ap (λ (t : List ℕ). text ++ t) behind)
-      ∙ sym (append_assoc (front es) text (drop r.next file))
-      ∙ ap (λ (t : List ℕ). t ++ drop r.next file) (sym (front_more es r.entry));
+          ∙ ap (λ (t : List ℕ). front es ++ t) (h.is ∙ ap (λ (t : List ℕ). text ++ t) behind)
+          ∙ sym (append_assoc (front es) text (drop r.next file))
+          ∙ ap (λ (t : List ℕ). t ++ drop r.next file) (sym (front_more es r.entry));
       place = omega (arith, h.next, f.place, ap length (front_more es r.entry), length-append (front es) text);
     }
 

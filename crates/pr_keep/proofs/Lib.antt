@@ -11,5 +11,6 @@ pub mod KeepLemmas
 pub mod AppendLemmas
 -- disks
 pub mod Moments
+pub mod Causes
 pub mod DiskLemmas
 pub mod MemoryLemmas

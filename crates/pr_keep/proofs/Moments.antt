@@ -35,7 +35,6 @@ module _ {D : Type 0} (state : D → State) (images : D → List ℕ → Type 0)
   untouched disk only = record {
     reads = refl;
     synced = refl;
-    faults = omega arith;
     none_new = λ c now. now;
     moments = record { later = omega arith; each = only; before = λ t c le was. inl was };
   }
@@ -44,7 +43,6 @@ module _ {D : Type 0} (state : D → State) (images : D → List ℕ → Type 0)
   untouched_more old mid new a b = record {
     reads = b.reads ∙ a.reads;
     synced = b.synced ∙ a.synced;
-    faults = omega (arith, a.faults, b.faults);
     none_new = λ c now. a.none_new c (b.none_new c now);
     moments = joined moment images_since old mid new (images old) a.moments (weaker moment images_since mid new (images mid) (images old) a.none_new b.moments);
   }

@@ -106,9 +106,9 @@ frame_takes bytes y fits e =
     let all : bytes ≡ a.0.0 ∷ ((eight c.0.0 ++ d.0.0) ++ d.0.1) = format.parts ∙ ap (λ (t : List ℕ). a.0.0 ∷ t) sized in
     subst (Read (spelling Two) IsFramed bytes) (some_is (m.0, d.0.1) y m.2) (record {
       parts = all
-      ∙ ap (λ (k : ℕ). k ∷ ((eight c.0.0 ++ d.0.0) ++ d.0.1)) two
-      ∙ ap (λ (n : ℕ). 2 ∷ ((eight n ++ d.0.0) ++ d.0.1)) size
-      ∙ ap (λ (t : List ℕ). 2 ∷ ((eight (length (content Two m.0)) ++ t) ++ d.0.1)) msg.0;
+          ∙ ap (λ (k : ℕ). k ∷ ((eight c.0.0 ++ d.0.0) ++ d.0.1)) two
+          ∙ ap (λ (n : ℕ). 2 ∷ ((eight n ++ d.0.0) ++ d.0.1)) size
+          ∙ ap (λ (t : List ℕ). 2 ∷ ((eight (length (content Two m.0)) ++ t) ++ d.0.1)) msg.0;
       fits = text.fits;
       holds = record { spelled = msg.1; short = omega (arith, len.holds, size) };
     })
@@ -162,10 +162,10 @@ cause_is n cause e =
     chosen n 1 (Some causes.Failed) (cond (n == 2) (Some causes.Ended) (cond (n == 3) (Some causes.Gap) None)) cause P e
     (λ is. ap cause_byte (sym (some_is causes.Failed cause is)))
     (λ off. chosen n 2 (Some causes.Ended) (cond (n == 3) (Some causes.Gap) None) cause P off
-      (λ is. ap cause_byte (sym (some_is causes.Ended cause is)))
-      (λ gone. chosen n 3 (Some causes.Gap) None cause P gone
-        (λ is. ap cause_byte (sym (some_is causes.Gap cause is)))
-        (λ none. absurd cc)))
+    (λ is. ap cause_byte (sym (some_is causes.Ended cause is)))
+    (λ gone. chosen n 3 (Some causes.Gap) None cause P gone
+    (λ is. ap cause_byte (sym (some_is causes.Gap cause is)))
+    (λ none. absurd cc)))
 
 abbrev pub IsAnyCause : Cause → Type 0
 IsAnyCause cause = Unit {0}
@@ -226,9 +226,9 @@ reply_by_takes k bytes y fits e =
     let second : Option (Reply × List ℕ) = cond (k == 2) (value_at bytes) third in
     chosen k 1 (Some (replies.Never, bytes)) second y P e (never_takes bytes y fits)
     (λ b. chosen k 2 (value_at bytes) third y P b (value_takes bytes y fits)
-      (λ c. chosen k 3 (stamped_at replies.Imprecise bytes) fourth y P c (untold_takes bytes y fits)
-        (λ d. chosen k 4 (stamped_at replies.Body bytes) last y P d (lacking_takes bytes y fits)
-          (λ f. chosen k 5 (stamped_at replies.Gone bytes) None y P f (gone_takes bytes y fits) (λ none. absurd cc)))))
+    (λ c. chosen k 3 (stamped_at replies.Imprecise bytes) fourth y P c (untold_takes bytes y fits)
+    (λ d. chosen k 4 (stamped_at replies.Body bytes) last y P d (lacking_takes bytes y fits)
+    (λ f. chosen k 5 (stamped_at replies.Gone bytes) None y P f (gone_takes bytes y fits) (λ none. absurd cc)))))
 
 reply_takes : Takes reply_at reply_text IsReply
 unfolding reply_at reply_text

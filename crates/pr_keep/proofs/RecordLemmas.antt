@@ -72,9 +72,9 @@ module _ (rest : List ℕ) (len : ℕ) (few : len < 2 ^ 64) (head : take 9 rest 
         keepable = record { spelled = read.1; short = omega (arith, size, few) };
         behind = drop len (drop 9 rest);
         is = split
-        ∙ ap (λ (t : List ℕ). 1 ∷ (eight len ++ t)) (sym (take-append-drop len (drop 9 rest)) ∙ ap (λ (t : List ℕ). t ++ drop len (drop 9 rest)) read.0)
-        ∙ ap (λ (n : ℕ). 1 ∷ (eight n ++ (entry_text r.entry ++ drop len (drop 9 rest)))) size
-        ∙ sym (record_is r.entry (drop len (drop 9 rest)));
+            ∙ ap (λ (t : List ℕ). 1 ∷ (eight len ++ t)) (sym (take-append-drop len (drop 9 rest)) ∙ ap (λ (t : List ℕ). t ++ drop len (drop 9 rest)) read.0)
+            ∙ ap (λ (n : ℕ). 1 ∷ (eight n ++ (entry_text r.entry ++ drop len (drop 9 rest)))) size
+            ∙ sym (record_is r.entry (drop len (drop 9 rest)));
         next = omega (arith, next, size, length-record r.entry);
       }
 
@@ -123,8 +123,7 @@ pub more_read : (file : List ℕ) (at len : ℕ) (old new : List ℕ) (count : �
 more_read file at len old new count so_far within below piece =
     let behind : take count (drop (at + length old) file) ≡ take count (drop (length old) (drop at file)) = ap (take count) (sym (drop-drop (length old) at file)) in
     let all : new ≡ take (length old + count) (drop at file) =
-    piece.bytes ∙ ap (λ (t : List ℕ). t ++ take count (drop (at + length old) file)) so_far ∙ ap (λ (t : List ℕ). take (length old) (drop at file) ++ t) behind ∙ take_both (length old) count (drop at file) in
-    (
+    piece.bytes ∙ ap (λ (t : List ℕ). t ++ take count (drop (at + length old) file)) so_far ∙ ap (λ (t : List ℕ). take (length old) (drop at file) ++ t) behind ∙ take_both (length old) count (drop at file) in (
       all ∙ ap (λ (n : ℕ). take n (drop at file)) (sym piece.size),
       omega (arith, piece.size, piece.within),
       omega (arith, piece.size, piece.within, piece.short),

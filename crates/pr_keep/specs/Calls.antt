@@ -16,12 +16,18 @@ use Rattle.pr_keep.specs.Files.{StandsFor, front, record_text}
 
 -- ---- faults
 
--- the disk failed only where its faults rose
-pub record HasCause {T : Type 0} (before now : ℕ) (result : Result T KeepFault) : Type 0 where
-  pub later : before ≤ now
-  pub failed : IsErrOf result Failed → HasRisen before now
+-- the disk failed only where its faults rose, and where it stops
+pub record HasCause {T : Type 0} (old new : State) (result : Result T KeepFault) : Type 0 where
+  pub later : old.faults ≤ new.faults
+  pub failed : IsErrOf result Failed → HasRisen old.faults new.faults
+  pub lasts : new.lasts ≡ old.lasts
+  pub stopped : (n : ℕ) → old.lasts ≡ Some n → IsErrOf result Failed → new.good ≡ n
+  pub quiet : (n : ℕ) → old.lasts ≡ Some n → (IsErrOf result Failed → ⊥) → new.faults ≡ old.faults
 
--- a call that fails so
+-- a call that succeeds, and one that fails so
+abbrev pub succeeds : Result ℕ KeepFault
+succeeds = Ok 0
+
 abbrev pub fails : KeepFault → Result ℕ KeepFault
 fails fault = Err fault
 
@@ -47,7 +53,6 @@ pub record HasCountedBelow (calls before now : ℕ) : Type 0 where
 pub record IsUntouched {D : Type 0} (state : D → State) (images : D → List ℕ → Type 0) (moment : D → ℕ) (images_since : D → ℕ → List ℕ → Type 0) (old new : D) : Type 0 where
   pub reads : (state new).reads ≡ (state old).reads
   pub synced : (state new).synced ≡ (state old).synced
-  pub faults : (state old).faults ≤ (state new).faults
   pub none_new : NoneNew (images old) (images new)
   pub moments : LeavesOnly moment images_since old new (images old)
 

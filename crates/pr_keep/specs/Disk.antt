@@ -1,16 +1,17 @@
 -- What the calls of a disk do, and what a stop may leave of it.
-use Rattle.std.specs.Prelude.{◌≡◌, ◌⊎◌, ◌<◌, ◌≤◌, ◌+◌, ◌^◌, ℕ, zero, suc, List, ◌++◌, length, max, min, take, drop, Result, Ok, Err, IfOk, IsErrOf, OnErr, OnOk}
+use Rattle.std.specs.Prelude.{◌≡◌, ◌⊎◌, ◌<◌, ◌≤◌, ◌+◌, ◌^◌, ◌↔◌, ℕ, zero, suc, Option, Some, List, ◌++◌, length, max, min, take, drop, Result, Ok, Err, IfOk, IsErrOf, OnErr, OnOk}
 use Rattle.pr_ports.specs.Faults.{HasRisen}
 use Rattle.pr_keep.specs.declared.disk.DiskFault.{DiskFault}
 use Rattle.pr_keep.specs.declared.disk.DiskFault.TheVariants.{Failed}
 
 -- the bytes that it reads as, those that it read as after its last sync that answered Ok, the number of its calls
--- that answered Ok, and of its faults
+-- that answered Ok, and of its faults; and, where that is told, after how many good calls it fails each
 pub record State : Type 0 where
   pub reads : List ℕ
   pub synced : List ℕ
   pub good : ℕ
   pub faults : ℕ
+  pub lasts : Option ℕ
 
 -- ---- counts
 
@@ -24,10 +25,17 @@ abbrev pub counted_call : {T : Type 0} → ℕ → Result T DiskFault → ℕ
 counted_call count (Ok answer) = counted count 1
 counted_call count (Err fault) = count
 
+-- it fails exactly after so many good calls, and counts a fault only then
+pub record StopsAt {T : Type 0} (n : ℕ) (old new : State) (result : Result T DiskFault) : Type 0 where
+  pub failed : IsErrOf result Failed ↔ (old.good ≡ n)
+  pub quiet : (IsErrOf result Failed → ⊥) → new.faults ≡ old.faults
+
 pub record HasAnswered {T : Type 0} (old new : State) (result : Result T DiskFault) : Type 0 where
   pub good : new.good ≡ counted_call old.good result
   pub faults : old.faults ≤ new.faults
   pub failed : IsErrOf result Failed → HasRisen old.faults new.faults
+  pub lasts : new.lasts ≡ old.lasts
+  pub stops : (n : ℕ) → old.lasts ≡ Some n → StopsAt n old new result
 
 -- ---- calls
 

@@ -1,11 +1,9 @@
 -- A disk in memory, by what was done to it.
-use Rattle.std.specs.Prelude.{◌≡◌, ◌≢◌, ◌⊎◌, ◌≤◌, ◌+◌, ◌↔◌, ℕ, List, [], ◌∷◌, length, take, drop, Result, IsErrOf, refl}
+use Rattle.std.specs.Prelude.{◌≡◌, ◌⊎◌, ◌≤◌, ◌+◌, ◌==◌, ℕ, cond, List, [], ◌∷◌, length, take, drop, Some, refl}
 use Rattle.std.proofs.Math.Nat.{not-suc-le_self}
 use mathlib.Core.Logic.{inl, inr}
 use Rattle.pr_keep.specs.declared.change.Change.{Change}
 use Rattle.pr_keep.specs.declared.change.Change.TheVariants.{Wrote, Synced}
-use Rattle.pr_keep.specs.declared.disk.DiskFault.{DiskFault}
-use Rattle.pr_keep.specs.declared.disk.DiskFault.TheVariants.{Failed}
 use Rattle.pr_keep.specs.Disk.{IsTorn, State, written}
 
 -- what was done, the newest first; after how many good calls it fails, and its counts
@@ -27,8 +25,18 @@ synced_changes [] = []
 synced_changes (Wrote at piece over ∷ changes) = synced_changes changes
 synced_changes (Synced ∷ changes) = Synced ∷ changes
 
+-- the greatest number is no stop, which no count comes to
+abbrev pub lasts_of : ℕ → ℕ
+lasts_of stop = cond (stop == 18446744073709551615) 18446744073709551616 stop
+
 abbrev pub state_of : Memory → State
-state_of m = record { reads = reads_of m.changes; synced = reads_of (synced_changes m.changes); good = m.good; faults = m.faults }
+state_of m = record {
+  reads = reads_of m.changes;
+  synced = reads_of (synced_changes m.changes);
+  good = m.good;
+  faults = m.faults;
+  lasts = Some (lasts_of m.stop);
+}
 
 -- what it reads as, and what a write that is not synced may have left
 abbrev pub IsImage : List Change → List ℕ → Type 0
@@ -74,11 +82,3 @@ pub only_image : (changes : List Change) (c : List ℕ) → WasImage changes (le
 only_image [] c was = was
 only_image (change ∷ changes) c (inl now) = now
 only_image (change ∷ changes) c (inr was) = absurd (not-suc-le_self (length changes) was.0)
-
--- ---- stops
-
--- a call fails exactly where as many calls were good as the stop says, and a fault is counted only then
-pub record StopsAt {T : Type 0} (old new : Memory) (result : Result T DiskFault) : Type 0 where
-  pub failed : IsErrOf result Failed ↔ ((old.stop ≢ 18446744073709551615) × (old.good ≡ old.stop))
-  pub quiet : (IsErrOf result Failed → ⊥) → new.faults ≡ old.faults
-  pub stop : new.stop ≡ old.stop

@@ -11,7 +11,11 @@ use std::alloc::Global;
 /// A piece was written at a place, over these bytes; or all was synced.
 #[derive(Drop)]
 pub enum Change {
-    Wrote { at: usize, piece: Bytes, over: Bytes },
+    Wrote {
+        at: usize,
+        piece: Bytes,
+        over: Bytes,
+    },
     Synced,
 }
 

@@ -1,5 +1,5 @@
 // A journal in a file.
-ghost use Rattle.pr_keep.specs.Calls.{HasCause, HasCountedBelow, IsDamagedAt, IsNotDamaged, IsOpened, IsSettled, IsSettledAt, IsTornFrom, IsUnsettled, IsUntouched, StandsUpTo, fails};
+ghost use Rattle.pr_keep.specs.Calls.{HasCause, HasCountedBelow, IsDamagedAt, IsNotDamaged, IsOpened, IsSettled, IsSettledAt, IsTornFrom, IsUnsettled, IsUntouched, StandsUpTo, fails, succeeds};
 ghost use Rattle.pr_keep.specs.Disk.{LeavesOnly, counted};
 ghost use Rattle.pr_keep.specs.Entries.{HasMessage, IsKeepable};
 ghost use Rattle.pr_keep.specs.Files.{IsBroken, IsDamaged, StandsFor, StandsForEither, head};
@@ -33,7 +33,8 @@ impl<D: Disk> Keep<D> {
         requires { (D.state disk).reads ≡ [] }
         ensures ok { IfOk result (λ keep. Keeps D.state D.images keep [] × ((D.state (disk_of keep)).good ≡ counted (D.state disk).good 2)) }
         ensures err { IfErr result (λ refused. IsNotDamaged refused.fault × HasCountedBelow 2 (D.state disk).good (D.state refused.disk).good) }
-        ensures cause { IfErr result (λ refused. HasCause (D.state disk).faults (D.state refused.disk).faults (fails refused.fault)) }
+        ensures counts { IfOk result (λ keep. HasCause (D.state disk) (D.state (disk_of keep)) succeeds) }
+        ensures cause { IfErr result (λ refused. HasCause (D.state disk) (D.state refused.disk) (fails refused.fault)) }
     {
         match write_synced(&mut disk, 0, b"PRACTIK1\0") {
             Ok(()) => Ok(Keep {
@@ -47,14 +48,12 @@ impl<D: Disk> Keep<D> {
 
     /// Opens a file, in time linear in its records, by a sync and then reads of at most one record more than the file
     /// has. Damaged says that it stands for no list of entries.
-    pub fn open(
-        alloc: Global,
-        mut disk: D,
-    ) -> Result<(Keep<D>, Seq<(u32, Entry)>), KeepRefused<D>>
+    pub fn open(alloc: Global, mut disk: D) -> Result<(Keep<D>, Seq<(u32, Entry)>), KeepRefused<D>>
         ensures ok { IfOk result (λ opened. Keeps D.state D.images opened.0 opened.1 × IsOpened D.state D.images D.moment D.images_since disk (disk_of opened.0)) }
         ensures same { (es : List (ℕ × Entry)) → StandsFor (D.state disk).reads es → IfOk result (λ opened. opened.1 ≡ es) × IfErr result (λ refused. IsNotDamaged refused.fault) }
         ensures err { IfErr result (λ refused. IsDamagedAt (IsDamaged (D.state disk).reads) refused.fault × IsOpened D.state D.images D.moment D.images_since disk refused.disk) }
-        ensures cause { IfErr result (λ refused. HasCause (D.state disk).faults (D.state refused.disk).faults (fails refused.fault)) }
+        ensures counts { IfOk result (λ opened. HasCause (D.state disk) (D.state (disk_of opened.0)) succeeds) }
+        ensures cause { IfErr result (λ refused. HasCause (D.state disk) (D.state refused.disk) (fails refused.fault)) }
     {
         match read_all(alloc, &mut disk) {
             Ok((entries, gate)) => Ok((Keep { alloc, disk, gate }, entries)),
@@ -74,7 +73,7 @@ impl<D: Disk> Keep<D> {
 
         // A stop at any moment of the call leaves the entries from before it, with the new one or without.
         ensures moments { (es : List (ℕ × Entry)) → Keeps D.state D.images self.old es → LeavesOnly D.moment D.images_since (disk_of self.old) (disk_of self.new) (StandsForEither es (node, entry.now)) }
-        ensures cause { HasCause (D.state (disk_of self.old)).faults (D.state (disk_of self.new)).faults result }
+        ensures cause { HasCause (D.state (disk_of self.old)) (D.state (disk_of self.new)) result }
         ensures fault { IfErr result IsNotDamaged }
     {
         let record = record_of(self.alloc, node, entry)?;
@@ -119,7 +118,7 @@ fn write_synced<D: Disk>(disk: &mut D, at: u64, piece: &[u8]) -> Result<(), Keep
     ensures ok { OnOk result (IsSettled D.state D.images disk.old disk.new at piece.now) }
     ensures err { OnErr result (IsUnsettled D.state disk.old disk.new) }
     ensures moments { LeavesOnly D.moment D.images_since disk.old disk.new (IsTornFrom (D.images disk.old) at (length piece.now)) }
-    ensures cause { HasCause (D.state disk.old).faults (D.state disk.new).faults result }
+    ensures cause { HasCause (D.state disk.old) (D.state disk.new) result }
     ensures fault { IfErr result IsNotDamaged }
 {
     disk.write(at, piece)?;
@@ -128,15 +127,12 @@ fn write_synced<D: Disk>(disk: &mut D, at: u64, piece: &[u8]) -> Result<(), Keep
 }
 
 // All entries of the file, and the place of the closed gate behind them.
-fn read_all<D: Disk>(
-    alloc: Global,
-    disk: &mut D,
-) -> Result<(Seq<(u32, Entry)>, u64), KeepFault>
+fn read_all<D: Disk>(alloc: Global, disk: &mut D) -> Result<(Seq<(u32, Entry)>, u64), KeepFault>
     ensures ok { IfOk result (λ all. StandsUpTo (D.state disk.old).reads all.0 all.1) }
     ensures settled { OnOk result (IsSettledAt D.state D.images disk.new) }
     ensures err { IfErr result (IsDamagedAt (IsDamaged (D.state disk.old).reads)) }
     ensures disk { IsOpened D.state D.images D.moment D.images_since disk.old disk.new }
-    ensures cause { HasCause (D.state disk.old).faults (D.state disk.new).faults result }
+    ensures cause { HasCause (D.state disk.old) (D.state disk.new) result }
 {
     disk.sync()?;
     let head = read_some(alloc, disk, 0, 8)?;
@@ -147,15 +143,12 @@ fn read_all<D: Disk>(
 }
 
 // The entries behind the head, and the place of the closed gate behind them.
-fn read_records<D: Disk>(
-    alloc: Global,
-    disk: &mut D,
-) -> Result<(Seq<(u32, Entry)>, u64), KeepFault>
+fn read_records<D: Disk>(alloc: Global, disk: &mut D) -> Result<(Seq<(u32, Entry)>, u64), KeepFault>
     requires { take 8 (D.state disk.old).reads ≡ head }
     ensures ok { IfOk result (λ all. StandsUpTo (D.state disk.old).reads all.0 all.1) }
     ensures err { IfErr result (IsDamagedAt (IsBroken (D.state disk.old).reads)) }
     ensures disk { IsUntouched D.state D.images D.moment D.images_since disk.old disk.new }
-    ensures cause { HasCause (D.state disk.old).faults (D.state disk.new).faults result }
+    ensures cause { HasCause (D.state disk.old) (D.state disk.new) result }
 {
     let mut entries = Seq::new(alloc);
     let mut at = 8;

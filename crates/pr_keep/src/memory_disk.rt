@@ -1,7 +1,7 @@
 // A disk in memory, which stops where it is told to.
-ghost use Rattle.pr_keep.specs.Disk.{Elapses, Follows, HasRead, HasSynced, HasWritten, IsFrom, IsTorn, NoneNew, Only, counted};
-ghost use Rattle.pr_keep.specs.Memory.{IsImage, StopsAt, WasImage, image_of, image_was, new_memory, only_image, reads_as_image, reads_of, state_of};
-ghost use Rattle.std.specs.Prelude.{◌≡◌, ◌≢◌, ◌≤◌, ◌<◌, ◌^◌, ◌↔◌, length, IsTrue, OnOk};
+ghost use Rattle.pr_keep.specs.Disk.{IsFrom, counted};
+ghost use Rattle.pr_keep.specs.Memory.{IsImage, WasImage, image_of, image_was, lasts_of, new_memory, only_image, reads_as_image, reads_of, state_of};
+ghost use Rattle.std.specs.Prelude.{◌≡◌, ◌<◌, ◌^◌, ◌↔◌, length, IsTrue};
 
 use crate::change::{Change, overwrite, undo_all};
 use crate::{Disk, DiskFault};
@@ -85,11 +85,13 @@ impl MemoryDisk {
     fn has_stopped(&self) -> bool
         ensures faults { self.now.faults < 2 ^ 64 }
         ensures short { length (reads_of self.now.changes) < 2 ^ 64 }
-        ensures stopped { IsTrue result ↔ ((self.now.stop ≢ 18446744073709551615) × (self.now.good ≡ self.now.stop)) }
+        ensures counts { self.now.good < 2 ^ 64 }
+        ensures stopped { IsTrue result ↔ (self.now.good ≡ lasts_of self.now.stop) }
     {
         let _ = self.bytes.len();
         let _faults = self.faults;
-        self.stop != u64::MAX && self.good == self.stop
+        let good = self.good;
+        self.stop != u64::MAX && good == self.stop
     }
 }
 
@@ -108,12 +110,7 @@ impl Disk for MemoryDisk {
 
     ghost only_now = { λ m c was. only_image m.changes c was };
 
-    fn read(&mut self, at: u64, buf: &mut [u8]) -> Result<usize, DiskFault>
-        ensures read { HasRead (state_of self.old) (state_of self.new) at buf.new result }
-        ensures images { NoneNew (IsImage self.old.changes) (IsImage self.new.changes) }
-        ensures time { Elapses (length self.old.changes) (length self.new.changes) (WasImage self.old.changes) (WasImage self.new.changes) (IsImage self.new.changes) }
-        ensures stops { StopsAt self.old self.new result }
-    {
+    fn read(&mut self, at: u64, buf: &mut [u8]) -> Result<usize, DiskFault> {
         if self.has_stopped() {
             self.count_fault();
             return Err(DiskFault::Failed);
@@ -122,29 +119,23 @@ impl Disk for MemoryDisk {
         Ok(give(&self.bytes, at as usize, buf))
     }
 
-    fn write(&mut self, at: u64, piece: &[u8]) -> Result<(), DiskFault>
-        requires { at ≤ length (state_of self.old).reads }
-        ensures written { HasWritten (state_of self.old) (state_of self.new) at piece.now result }
-        ensures images { Follows (IsTorn at (length piece.now)) (IsImage self.old.changes) (IsImage self.new.changes) }
-        ensures time { Elapses (length self.old.changes) (length self.new.changes) (WasImage self.old.changes) (WasImage self.new.changes) (IsImage self.new.changes) }
-        ensures stops { StopsAt self.old self.new result }
-    {
+    fn write(&mut self, at: u64, piece: &[u8]) -> Result<(), DiskFault> {
         if self.has_stopped() {
             self.count_fault();
             return Err(DiskFault::Failed);
         }
-        overwrite(self.alloc, &mut self.bytes, &mut self.changes, at as usize, piece)?;
+        overwrite(
+            self.alloc,
+            &mut self.bytes,
+            &mut self.changes,
+            at as usize,
+            piece,
+        )?;
         self.count_good();
         Ok(())
     }
 
-    fn sync(&mut self) -> Result<(), DiskFault>
-        ensures synced { HasSynced (state_of self.old) (state_of self.new) result }
-        ensures settled { OnOk result (Only (state_of self.old).reads (IsImage self.new.changes)) }
-        ensures images { NoneNew (IsImage self.old.changes) (IsImage self.new.changes) }
-        ensures time { Elapses (length self.old.changes) (length self.new.changes) (WasImage self.old.changes) (WasImage self.new.changes) (IsImage self.new.changes) }
-        ensures stops { StopsAt self.old self.new result }
-    {
+    fn sync(&mut self) -> Result<(), DiskFault> {
         if self.has_stopped() {
             self.count_fault();
             return Err(DiskFault::Failed);

@@ -32,15 +32,11 @@ pub enum Gate {
 
 /// The record at a place, or None at a closed gate, in time linear in the record. Damaged says that neither stands
 /// there.
-pub fn record_at<D: Disk>(
-    alloc: Global,
-    disk: &mut D,
-    at: u64,
-) -> Result<Option<Record>, KeepFault>
+pub fn record_at<D: Disk>(alloc: Global, disk: &mut D, at: u64) -> Result<Option<Record>, KeepFault>
     requires { at ≤ length (D.state disk.old).reads }
     ensures place { PlaceIs (drop at (D.state disk.old).reads) at result }
     ensures disk { IsUntouched D.state D.images D.moment D.images_since disk.old disk.new }
-    ensures cause { HasCause (D.state disk.old).faults (D.state disk.new).faults result }
+    ensures cause { HasCause (D.state disk.old) (D.state disk.new) result }
 {
     let head = read_some(alloc, disk, at, 9)?;
     match gate_of(head.as_slice()) {
@@ -100,7 +96,7 @@ fn record_behind<D: Disk>(
     requires place { at + 9 < 2 ^ 64 }
     ensures record { RecordIs (drop at (D.state disk.old).reads) at result }
     ensures disk { IsUntouched D.state D.images D.moment D.images_since disk.old disk.new }
-    ensures cause { HasCause (D.state disk.old).faults (D.state disk.new).faults result }
+    ensures cause { HasCause (D.state disk.old) (D.state disk.new) result }
 {
     let text = read_some(alloc, disk, at + 9, len)?;
     if (text.len() as u64) < len {
@@ -128,7 +124,7 @@ pub fn read_some<D: Disk>(
     ensures fits { IfOk result (λ bytes. at + length bytes < 2 ^ 64) }
     ensures fault { IfErr result IsNotDamaged }
     ensures disk { IsUntouched D.state D.images D.moment D.images_since disk.old disk.new }
-    ensures cause { HasCause (D.state disk.old).faults (D.state disk.new).faults result }
+    ensures cause { HasCause (D.state disk.old) (D.state disk.new) result }
 {
     let mut bytes = Seq::new(alloc);
     while (bytes.len() as u64) < len {
@@ -152,7 +148,7 @@ fn read_piece<D: Disk>(
     ensures bytes { IfOk result (IsPiece (D.state disk.old).reads at most bytes.old bytes.new) }
     ensures fault { IfErr result IsNotDamaged }
     ensures disk { IsUntouched D.state D.images D.moment D.images_since disk.old disk.new }
-    ensures cause { HasCause (D.state disk.old).faults (D.state disk.new).faults result }
+    ensures cause { HasCause (D.state disk.old) (D.state disk.new) result }
 {
     let mut piece = [0; PIECE];
     let len = most.min(PIECE as u64) as usize;

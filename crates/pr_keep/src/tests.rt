@@ -64,7 +64,16 @@ fn comes_back(alloc: Global, kind: u8, event: Event) -> Result<(), Fail>
         return Err(Fail::from("another kind"));
     }
     match whole_entry(alloc, out.as_slice()) {
-        Ok((3, Entry { time: 5, caller: 7, .. })) => Ok(()),
+        Ok(
+            (
+                3,
+                Entry {
+                    time: 5,
+                    caller: 7,
+                    ..
+                },
+            ),
+        ) => Ok(()),
         _ => Err(Fail::from("another entry")),
     }
 }
@@ -80,29 +89,94 @@ fn events_of_writes_and_streams_come_back(rt: HostRuntime) -> Result<(), Fail> {
     };
     let body = text(alloc)?;
     let after = Vector::zero();
-    comes_back(alloc, 1, Event::Wrote { client: 1, write, body, after })?;
-    comes_back(alloc, 2, Event::Attached { stream: 1, at: after })?;
+    comes_back(
+        alloc,
+        1,
+        Event::Wrote {
+            client: 1,
+            write,
+            body,
+            after,
+        },
+    )?;
+    comes_back(
+        alloc,
+        2,
+        Event::Attached {
+            stream: 1,
+            at: after,
+        },
+    )?;
     comes_back(alloc, 4, Event::Idle { stream: 1 })?;
-    comes_back(alloc, 5, Event::Stale { stream: 1, cut: after })
+    comes_back(
+        alloc,
+        5,
+        Event::Stale {
+            stream: 1,
+            cut: after,
+        },
+    )
 }
 
 #[test]
 fn events_with_messages_come_back(rt: HostRuntime) -> Result<(), Fail> {
     let alloc = rt.alloc();
     let at = Vector::zero();
-    comes_back(alloc, 3, Event::Sent { msg: message(alloc)? })?;
-    comes_back(alloc, 6, Event::Accepted { msg: message(alloc)?, at })?;
-    comes_back(alloc, 7, Event::Gapped { msg: message(alloc)?, has: at })
+    comes_back(
+        alloc,
+        3,
+        Event::Sent {
+            msg: message(alloc)?,
+        },
+    )?;
+    comes_back(
+        alloc,
+        6,
+        Event::Accepted {
+            msg: message(alloc)?,
+            at,
+        },
+    )?;
+    comes_back(
+        alloc,
+        7,
+        Event::Gapped {
+            msg: message(alloc)?,
+            has: at,
+        },
+    )
 }
 
 #[test]
 fn events_of_flows_and_clients_come_back(rt: HostRuntime) -> Result<(), Fail> {
     let alloc = rt.alloc();
     let needs = Vector::zero();
-    comes_back(alloc, 8, Event::Missing { stream: 1, number: 2 })?;
-    comes_back(alloc, 9, Event::Down { stream: 1, cause: Cause::Gap })?;
+    comes_back(
+        alloc,
+        8,
+        Event::Missing {
+            stream: 1,
+            number: 2,
+        },
+    )?;
+    comes_back(
+        alloc,
+        9,
+        Event::Down {
+            stream: 1,
+            cause: Cause::Gap,
+        },
+    )?;
     comes_back(alloc, 15, Event::Moved { client: 1 })?;
-    comes_back(alloc, 16, Event::Behind { client: 1, needs, has: needs })
+    comes_back(
+        alloc,
+        16,
+        Event::Behind {
+            client: 1,
+            needs,
+            has: needs,
+        },
+    )
 }
 
 // A client's read of a/x was answered so.
@@ -123,7 +197,14 @@ fn answers_come_back(rt: HostRuntime) -> Result<(), Fail> {
     let untold = stamp(4, 1)?;
     let bytes = text(alloc)?;
     comes_back(alloc, 10, answered(Reply::Never)?)?;
-    comes_back(alloc, 10, answered(Reply::Value { stamp: untold, bytes })?)?;
+    comes_back(
+        alloc,
+        10,
+        answered(Reply::Value {
+            stamp: untold,
+            bytes,
+        })?,
+    )?;
     comes_back(alloc, 10, answered(Reply::Imprecise { untold })?)?;
     comes_back(alloc, 10, answered(Reply::Gone { stamp: untold })?)
 }
@@ -137,8 +218,24 @@ fn events_of_nodes_come_back(rt: HostRuntime) -> Result<(), Fail> {
     let precise = Seq::copied(alloc, &[at, at]).ok().ok_or("no memory")?;
     comes_back(alloc, 11, Event::Cut { at })?;
     comes_back(alloc, 12, Event::Dropped { name: name()? })?;
-    comes_back(alloc, 13, Event::Conflicts { name: name()?, found })?;
-    comes_back(alloc, 14, Event::State { at, cut: at, floor: at, precise })
+    comes_back(
+        alloc,
+        13,
+        Event::Conflicts {
+            name: name()?,
+            found,
+        },
+    )?;
+    comes_back(
+        alloc,
+        14,
+        Event::State {
+            at,
+            cut: at,
+            floor: at,
+            precise,
+        },
+    )
 }
 
 // A client came to node 3, by the format's own words.
@@ -187,7 +284,17 @@ fn kept_until(alloc: Global, stop: u64) -> MemoryDisk {
 fn a_stop_leaves_the_entries_that_were_kept(rt: HostRuntime) -> Result<(), Fail> {
     let alloc = rt.alloc();
     let found = [
-        None, None, Some(0), Some(0), Some(0), Some(0), Some(1), Some(1), Some(1), Some(1), Some(2),
+        None,
+        None,
+        Some(0),
+        Some(0),
+        Some(0),
+        Some(0),
+        Some(1),
+        Some(1),
+        Some(1),
+        Some(1),
+        Some(2),
     ];
     for (stop, entries) in found.iter().enumerate() {
         let disk = kept_until(alloc, stop as u64).image();

@@ -44,7 +44,12 @@ fn wrote(cursor: &mut Cursor, alloc: Global) -> Result<Event, Fault>
     let write = write(cursor)?;
     let body = counted(cursor, alloc)?;
     let after = cursor.vector()?;
-    Ok(Event::Wrote { client, write, body, after })
+    Ok(Event::Wrote {
+        client,
+        write,
+        body,
+        after,
+    })
 }
 
 #[tactic(auto, unfolding(crate::specs::Reading::attached_at))]

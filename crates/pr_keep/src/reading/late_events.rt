@@ -42,7 +42,12 @@ fn answered(cursor: &mut Cursor, alloc: Global) -> Result<Event, Fault>
     let name = cursor.name()?;
     let reply = reply(cursor, alloc)?;
     let at = cursor.vector()?;
-    Ok(Event::Answered { client, name, reply, at })
+    Ok(Event::Answered {
+        client,
+        name,
+        reply,
+        at,
+    })
 }
 
 #[tactic(auto, unfolding(crate::specs::Reading::cut_at))]
@@ -78,7 +83,12 @@ fn state(cursor: &mut Cursor, alloc: Global) -> Result<Event, Fault>
     let cut = cursor.vector()?;
     let floor = cursor.vector()?;
     let precise = vectors(cursor, alloc)?;
-    Ok(Event::State { at, cut, floor, precise })
+    Ok(Event::State {
+        at,
+        cut,
+        floor,
+        precise,
+    })
 }
 
 #[tactic(auto, unfolding(crate::specs::Reading::moved_at))]

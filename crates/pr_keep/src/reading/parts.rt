@@ -41,11 +41,7 @@ fn pairs(cursor: &mut Cursor, alloc: Global) -> Result<Seq<(Stamp, Stamp)>, Faul
     some_pairs(cursor, alloc, count)
 }
 
-fn some_pairs(
-    cursor: &mut Cursor,
-    alloc: Global,
-    count: u64,
-) -> Result<Seq<(Stamp, Stamp)>, Fault>
+fn some_pairs(cursor: &mut Cursor, alloc: Global, count: u64) -> Result<Seq<(Stamp, Stamp)>, Fault>
     ensures { Gives (λ x. (x, cursor.new.rest.now)) result (items_at pair_at in_any_order count [] cursor.old.rest.now) }
 {
     let mut pairs = Seq::new(alloc);

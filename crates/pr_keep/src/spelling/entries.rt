@@ -190,12 +190,7 @@ fn append_answered(
     append_clocks(at, out)
 }
 
-fn append_behind(
-    client: u32,
-    needs: &Vector,
-    has: &Vector,
-    out: &mut Bytes,
-) -> Result<(), NoMemory>
+fn append_behind(client: u32, needs: &Vector, has: &Vector, out: &mut Bytes) -> Result<(), NoMemory>
     ensures text { OnOk result (out.new ≡ out.old ++ (four client ++ (vector_text needs.now ++ vector_text has.now))) }
     ensures range { OnOk result (IsVector needs.now × IsVector has.now) }
 {

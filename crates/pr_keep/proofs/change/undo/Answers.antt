@@ -10,10 +10,10 @@ returns c = λ piece old was len.
     let bytes = c.args.bytes.now.items in
     elim c.if-over-len.branch [
       | then-over-len w ↦ c.lay.ensures
-      ∙ ap (λ (v : Vec ℕ Global). written c.args.at over v.items) w.bytes-is
-      ∙ ap (written c.args.at over) w.truncate.ensures.items
-      ∙ undone_past bytes c.args.at piece over old was (omega (arith, w.if-over-len.true, len))
+          ∙ ap (λ (v : Vec ℕ Global). written c.args.at over v.items) w.bytes-is
+          ∙ ap (written c.args.at over) w.truncate.ensures.items
+          ∙ undone_past bytes c.args.at piece over old was (omega (arith, w.if-over-len.true, len))
       | else-over-len w ↦ c.lay.ensures
-      ∙ ap (λ (v : Vec ℕ Global). written c.args.at over v.items) w.bytes-is
-      ∙ undone_within bytes c.args.at piece over old was (omega (arith, w.if-over-len.false, len))
+          ∙ ap (λ (v : Vec ℕ Global). written c.args.at over v.items) w.bytes-is
+          ∙ undone_within bytes c.args.at piece over old was (omega (arith, w.if-over-len.false, len))
     ]

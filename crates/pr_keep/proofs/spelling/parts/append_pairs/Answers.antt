@@ -16,8 +16,8 @@ loop-pair-preserved c =
     let more : take i xs ++ x ∷ [] ≡ take (i + 1) xs = ap (λ (y : Point × Point). take i xs ++ y ∷ []) c.pair-item.is ∙ sym (take_more xs i x c.loop-pair-test.true) in
     let count = eight (length xs) in (
       c.in_ok-append_pair.ensures.text
-      ∙ ap (λ (t : List ℕ). t ++ pair_text x) c.loop-pair.invariant.0
-      ∙ append_assoc c.args.out.now (count ++ flat_map pair_text (take i xs)) (pair_text x)
-      ∙ ap (λ (t : List ℕ). c.args.out.now ++ t) (flat_map_more pair_text count (take i xs) x ∙ ap (λ (ys : List (Point × Point)). count ++ flat_map pair_text ys) more),
+          ∙ ap (λ (t : List ℕ). t ++ pair_text x) c.loop-pair.invariant.0
+          ∙ append_assoc c.args.out.now (count ++ flat_map pair_text (take i xs)) (pair_text x)
+          ∙ ap (λ (t : List ℕ). c.args.out.now ++ t) (flat_map_more pair_text count (take i xs) x ∙ ap (λ (ys : List (Point × Point)). count ++ flat_map pair_text ys) more),
       subst (AllByRecursion IsPair) more (each_more IsPair (take i xs) x c.loop-pair.invariant.1 c.append_pair.ensures.range),
     )
