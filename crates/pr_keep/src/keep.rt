@@ -31,8 +31,10 @@ impl<D: Disk> Keep<D> {
     /// Makes an empty file, by one write and one sync.
     pub fn format(alloc: Global, mut disk: D) -> Result<Keep<D>, KeepRefused<D>>
         requires { (D.state disk).reads ≡ [] }
-        ensures ok { IfOk result (λ keep. Keeps D.state D.images keep [] × ((D.state (disk_of keep)).good ≡ counted (D.state disk).good 2)) }
-        ensures err { IfErr result (λ refused. IsNotDamaged refused.fault × HasCountedBelow 2 (D.state disk).good (D.state refused.disk).good) }
+        ensures ok { IfOk result (λ keep. Keeps D.state D.images keep []
+            × ((D.state (disk_of keep)).good ≡ counted (D.state disk).good 2)) }
+        ensures err { IfErr result (λ refused. IsNotDamaged refused.fault
+            × HasCountedBelow 2 (D.state disk).good (D.state refused.disk).good) }
         ensures counts { IfOk result (λ keep. HasCause (D.state disk) (D.state (disk_of keep)) succeeds) }
         ensures cause { IfErr result (λ refused. HasCause (D.state disk) (D.state refused.disk) (fails refused.fault)) }
     {
@@ -46,12 +48,15 @@ impl<D: Disk> Keep<D> {
         }
     }
 
-    /// Opens a file, in time linear in its records, by a sync and then reads of at most one record more than the file
-    /// has. Damaged says that it stands for no list of entries.
+    /// Opens a file, in time linear in its records, by a sync and then reads, with one record at most in memory besides
+    /// the entries. Damaged says that it stands for no list of entries.
     pub fn open(alloc: Global, mut disk: D) -> Result<(Keep<D>, Seq<(u32, Entry)>), KeepRefused<D>>
-        ensures ok { IfOk result (λ opened. Keeps D.state D.images opened.0 opened.1 × IsOpened D.state D.images D.moment D.images_since disk (disk_of opened.0)) }
-        ensures same { (es : List (ℕ × Entry)) → StandsFor (D.state disk).reads es → IfOk result (λ opened. opened.1 ≡ es) × IfErr result (λ refused. IsNotDamaged refused.fault) }
-        ensures err { IfErr result (λ refused. IsDamagedAt (IsDamaged (D.state disk).reads) refused.fault × IsOpened D.state D.images D.moment D.images_since disk refused.disk) }
+        ensures ok { IfOk result (λ opened. Keeps D.state D.images opened.0 opened.1
+            × IsOpened D.state D.images D.moment D.images_since disk (disk_of opened.0)) }
+        ensures same { (es : List (ℕ × Entry)) → StandsFor (D.state disk).reads es
+            → IfOk result (λ opened. opened.1 ≡ es) × IfErr result (λ refused. IsNotDamaged refused.fault) }
+        ensures err { IfErr result (λ refused. IsDamagedAt (IsDamaged (D.state disk).reads) refused.fault
+            × IsOpened D.state D.images D.moment D.images_since disk refused.disk) }
         ensures counts { IfOk result (λ opened. HasCause (D.state disk) (D.state (disk_of opened.0)) succeeds) }
         ensures cause { IfErr result (λ refused. HasCause (D.state disk) (D.state refused.disk) (fails refused.fault)) }
     {
@@ -67,16 +72,21 @@ impl<D: Disk> Keep<D> {
         requires node { node < 32 }
         requires message { HasMessage entry.now.event }
         requires kept { (es : List (ℕ × Entry)) × Keeps D.state D.images self.old es }
-        ensures ok { (es : List (ℕ × Entry)) → Keeps D.state D.images self.old es → OnOk result (Keeps D.state D.images self.new (es ++ (node, entry.now) ∷ [])) }
+        ensures ok { (es : List (ℕ × Entry)) → Keeps D.state D.images self.old es
+            → OnOk result (Keeps D.state D.images self.new (es ++ (node, entry.now) ∷ [])) }
         ensures good { OnOk result ((D.state (disk_of self.new)).good ≡ counted (D.state (disk_of self.old)).good 4) }
-        ensures err { (es : List (ℕ × Entry)) → Keeps D.state D.images self.old es → OnErr result (StandsFor (D.state (disk_of self.new)).synced es × HasCountedBelow 4 (D.state (disk_of self.old)).good (D.state (disk_of self.new)).good) }
+        ensures err { (es : List (ℕ × Entry)) → Keeps D.state D.images self.old es
+            → OnErr result (StandsFor (D.state (disk_of self.new)).synced es
+            × HasCountedBelow 4 (D.state (disk_of self.old)).good (D.state (disk_of self.new)).good) }
 
         // A stop at any moment of the call leaves the entries from before it, with the new one or without.
-        ensures moments { (es : List (ℕ × Entry)) → Keeps D.state D.images self.old es → LeavesOnly D.moment D.images_since (disk_of self.old) (disk_of self.new) (StandsForEither es (node, entry.now)) }
+        ensures moments { (es : List (ℕ × Entry)) → Keeps D.state D.images self.old es
+            → LeavesOnly D.moment D.images_since (disk_of self.old) (disk_of self.new) (StandsForEither es (node, entry.now)) }
         ensures cause { HasCause (D.state (disk_of self.old)) (D.state (disk_of self.new)) result }
         ensures fault { IfErr result IsNotDamaged }
     {
         let record = record_of(self.alloc, node, entry)?;
+        // No file is so long that its places want more than 64 bits.
         let Some(gate) = self.gate.checked_add(record.len() as u64) else {
             return Err(KeepFault::NoMemory);
         };
@@ -122,8 +132,7 @@ fn write_synced<D: Disk>(disk: &mut D, at: u64, piece: &[u8]) -> Result<(), Keep
     ensures fault { IfErr result IsNotDamaged }
 {
     disk.write(at, piece)?;
-    disk.sync()?;
-    Ok(())
+    Ok(disk.sync()?)
 }
 
 // All entries of the file, and the place of the closed gate behind them.
