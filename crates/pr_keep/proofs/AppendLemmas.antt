@@ -2,13 +2,13 @@
 use Rattle.std.proofs.Common.{◌≡◌, inl, ℕ, zero, suc, ◌+◌, ◌<◌, List, [], ◌∷◌, ◌++◌, length, refl, sym, ap, subst, ◌∙◌, zero-add, arith}
 use Rattle.pr_story.specs.declared.entry.Entry.{Entry}
 use Rattle.pr_keep.specs.declared.keep.Keep.{Keep}
-use Rattle.pr_keep.specs.Calls.{HasCountedBelow, IsSettled, IsTornFrom, IsUnsettled}
+use Rattle.pr_keep.specs.Calls.{HasCountedBelow, IsSettled, IsTornFrom}
 use Rattle.pr_keep.specs.Disk.{IsTorn, LeavesOnly, Only, State, counted, written}
 use Rattle.pr_keep.specs.Entries.{IsKeepable}
 use Rattle.pr_keep.specs.Files.{StandsFor, StandsForEither, front}
 use Rattle.pr_keep.specs.Keeping.{Keeps}
 use Rattle.pr_keep.specs.Spelling.{counted_text, entry_text}
-use Rattle.pr_keep.proofs.KeepLemmas.{IsStaged, next_gate, opened, staged, staged_stands, torn_behind, torn_gate}
+use Rattle.pr_keep.proofs.KeepLemmas.{IsStaged, next_gate, opened, staged, torn_behind, torn_gate}
 use Rattle.pr_keep.proofs.Moments.{joined, weaker}
 
 -- ---- counts

@@ -3,7 +3,7 @@ use Rattle.std.proofs.Common.{◌≡◌, ◌≤◌, inl, inr, ℕ, Result, Ok, E
 use Rattle.std.specs.Prelude.{IsErrOf}
 use Rattle.pr_ports.specs.Faults.{HasRisen}
 use Rattle.pr_keep.specs.declared.fault.KeepFault.{KeepFault}
-use Rattle.pr_keep.specs.declared.fault.KeepFault.TheVariants.{Failed, NoMemory}
+use Rattle.pr_keep.specs.declared.fault.KeepFault.TheVariants.{Failed}
 use Rattle.pr_keep.specs.Calls.{HasCause}
 use Rattle.pr_keep.specs.Disk.{State}
 

@@ -1,5 +1,5 @@
 -- What a write leaves, and what a stop in it may leave.
-use Rattle.std.proofs.Common.{◌≡◌, ℕ, ◌+◌, ◌-◌, ◌<◌, ◌≤◌, ◌≢◌, List, [], ◌∷◌, ◌++◌, length, take, drop, refl, sym, ap, ◌∙◌, append_assoc, arith}
+use Rattle.std.proofs.Common.{◌≡◌, ℕ, ◌+◌, ◌-◌, ◌<◌, ◌≤◌, List, [], ◌++◌, length, take, drop, refl, sym, ap, ◌∙◌, append_assoc, arith}
 use Rattle.std.proofs.lemmas.List.{append-nil, drop-drop, length-append, length-drop, length-take, take_at, take_all, take-take, drop_at, drop_all, take-append-drop}
 use Rattle.pr_keep.specs.Disk.{IsTorn, written}
 use Rattle.pr_keep.specs.Changes.{WasOver}

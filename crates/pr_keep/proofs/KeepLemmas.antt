@@ -1,9 +1,9 @@
 -- One more entry: what the two writes make of a file, and what a stop in them leaves.
-use Rattle.std.proofs.Common.{◌≡◌, ◌≢◌, ◌⊎◌, inl, inr, ℕ, ◌+◌, ◌-◌, ◌<◌, ◌≤◌, List, [], ◌∷◌, ◌++◌, length, get_or, take, drop, refl, sym, ap, subst, ◌∙◌, append_assoc, arith}
+use Rattle.std.proofs.Common.{◌≡◌, ◌≢◌, inl, inr, ℕ, ◌+◌, ◌-◌, ◌<◌, ◌≤◌, List, [], ◌∷◌, ◌++◌, length, get_or, take, drop, refl, sym, ap, ◌∙◌, append_assoc, arith}
 use Rattle.std.specs.List.{AllByRecursion, flat_map}
 use Rattle.std.proofs.lemmas.Bool.{cases_eq}
 use Rattle.std.proofs.lemmas.Grind.{flat_map-append}
-use Rattle.std.proofs.lemmas.List.{append-nil, drop-drop, drop_at, drop_more, length-append, length-drop, length-take, take_at, take-append-drop}
+use Rattle.std.proofs.lemmas.List.{append-nil, drop-drop, drop_at, drop_more, length-append, take_at, take-append-drop}
 use Rattle.pr_story.specs.declared.entry.Entry.{Entry}
 use Rattle.pr_keep.specs.declared.records.Record.{Record}
 use Rattle.pr_keep.specs.Calls.{IsClosed, IsNothing, IsRecord, StandsUpTo}

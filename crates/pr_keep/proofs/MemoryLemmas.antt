@@ -1,12 +1,12 @@
 -- One change more of a disk in memory.
-use Rattle.std.proofs.Common.{◌≡◌, ◌⊎◌, inl, inr, ℕ, ◌≤◌, Bool, true, false, List, [], ◌∷◌, ◌++◌, length, take, drop, refl, sym, ap, subst, ◌∙◌, arith}
+use Rattle.std.proofs.Common.{◌≡◌, inl, inr, ℕ, ◌≤◌, List, [], ◌∷◌, ◌++◌, length, take, drop, sym, ap, subst, ◌∙◌}
 use Rattle.std.specs.Prelude.{reverse}
 use Rattle.std.proofs.lemmas.List.{reverse-append}
 use Rattle.pr_keep.specs.declared.change.Change.{Change}
 use Rattle.pr_keep.specs.declared.change.Change.TheVariants.{Wrote, Synced}
-use Rattle.pr_keep.specs.Changes.{HasOverwritten, WasOver, is_pending}
+use Rattle.pr_keep.specs.Changes.{HasOverwritten}
 use Rattle.pr_keep.specs.Disk.{Follows, IsTorn, NoneNew, written}
-use Rattle.pr_keep.specs.Memory.{CanUndo, IsImage, IsMade, reads_as_image, reads_of, synced_changes}
+use Rattle.pr_keep.specs.Memory.{IsImage, IsMade, reads_as_image, reads_of}
 use Rattle.pr_keep.proofs.DiskLemmas.{torn_same, written_torn}
 
 pub same_images : (at count : ℕ) (changes : List Change) → Follows (IsTorn at count) (IsImage changes) (IsImage changes)

@@ -1,10 +1,10 @@
 -- A feed that holds the frame of a content gives the message that is read from it.
-use Rattle.std.proofs.Common.{◌≡◌, ◌≢◌, ◌⊎◌, inl, inr, ℕ, ◌+◌, ◌^◌, ◌<◌, ◌≤◌, List, [], ◌∷◌, ◌++◌, length, get_or, take, drop, Option, Some, None, refl, sym, ap, subst, ◌∙◌, append_assoc, arith}
+use Rattle.std.proofs.Common.{◌≡◌, inl, inr, ℕ, ◌+◌, ◌^◌, ◌<◌, List, [], ◌∷◌, ◌++◌, length, get_or, drop, Option, Some, None, refl, sym, ap, ◌∙◌, arith}
 use Rattle.std.specs.Int.{w64, from_be_bytes}
 use Rattle.std.proofs.lemmas.List.{append-nil, length-append, take_at, take_all}
 use Rattle.pr_inval.specs.declared.msg.Msg.{Msg}
 use Rattle.pr_wire.specs.Feeding.{Fed, HasAnswered}
-use Rattle.pr_wire.specs.Frames.{HasNoFormat, IsBad, IsNoSpelling, IsPartial, IsTooLong, IsWhole, frame_of, said_length}
+use Rattle.pr_wire.specs.Frames.{IsBad, IsWhole, frame_of, said_length}
 use Rattle.pr_wire.specs.Messages.{HasSpelling}
 use Rattle.pr_wire.specs.Reading.{message_at}
 use Rattle.pr_wire.specs.Spelling.{content, eight, spelling}

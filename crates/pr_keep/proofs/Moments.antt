@@ -1,5 +1,5 @@
 -- How a run of calls of a disk goes on.
-use Rattle.std.proofs.Common.{inl, inr, ⊎_elim, ℕ, ◌≤◌, List, refl, ◌∙◌, arith}
+use Rattle.std.proofs.Common.{inl, inr, ⊎_elim, ℕ, List, refl, ◌∙◌, arith}
 use Rattle.pr_keep.specs.Disk.{Elapses, Follows, IsTorn, LeavesOnly, NoneNew, State}
 use Rattle.pr_keep.specs.Calls.{IsTornFrom, IsUntouched}
 use Rattle.pr_keep.proofs.DiskLemmas.{torn_same}

@@ -1,5 +1,5 @@
 -- The parts of events: each is read from what it is spelled, and spelled by what it is read from.
-use Rattle.std.proofs.Common.{◌≡◌, ℕ, suc, ◌^◌, ◌<◌, Bool, true, false, cond, List, [], ◌∷◌, ◌++◌, length, take, Option, Some, None, refl, sym, ap, subst, ◌∙◌, append_assoc, arith}
+use Rattle.std.proofs.Common.{◌≡◌, ℕ, ◌<◌, Bool, true, cond, List, [], ◌∷◌, ◌++◌, length, Option, Some, None, refl, sym, ap, subst, ◌∙◌, append_assoc, arith}
 use Rattle.std.specs.Prelude.{nat_lt, ◌==◌}
 use Rattle.std.proofs.lemmas.Bool.{eqb-true, ltb-true, lt-ltb}
 use Rattle.std.proofs.lemmas.List.{take_at}
@@ -14,7 +14,6 @@ use Rattle.pr_story.specs.declared.found.Found.{Found}
 use Rattle.pr_story.specs.declared.found.Found.TheVariants as founds
 use Rattle.pr_story.specs.declared.reply.Reply.{Reply}
 use Rattle.pr_story.specs.declared.reply.Reply.TheVariants as replies
-use Rattle.pr_wire.specs.Messages.{HasSpelling}
 use Rattle.pr_wire.specs.Reading.{◌>>=◌, byte_at, bytes_at, eight_at, given, gone_at, list_at, message_at, name_at, prev_at, stamp_at, vector_at}
 use Rattle.pr_wire.specs.Spelling.{content, eight, gone_text, list_text, name_text, prev_text, spelling, stamp_text, vector_text, write_text}
 use Rattle.pr_wire.specs.declared.format.Format.TheVariants.{Two}

@@ -1,13 +1,13 @@
 -- What stands at a place where a gate has to stand.
-use Rattle.std.proofs.Common.{◌≡◌, ◌≢◌, ◌⊎◌, inl, inr, ℕ, ◌+◌, ◌-◌, ◌^◌, ◌<◌, ◌≤◌, List, [], ◌∷◌, ◌++◌, length, get_or, take, drop, Option, Some, None, refl, sym, ap, subst, ◌∙◌, append_assoc, arith}
-use Rattle.std.proofs.lemmas.List.{append-nil, drop-drop, drop-take, length-append, length-drop, length-take, take_at, take_all, take-append-drop, take-take}
+use Rattle.std.proofs.Common.{◌≡◌, ◌≢◌, inl, inr, ℕ, ◌+◌, ◌-◌, ◌^◌, ◌<◌, ◌≤◌, List, [], ◌∷◌, ◌++◌, length, take, drop, Some, None, refl, sym, ap, ◌∙◌, append_assoc, arith}
+use Rattle.std.proofs.lemmas.List.{drop-drop, drop-take, length-append, length-drop, length-take, take_at, take_all, take-append-drop, take-take}
 use Rattle.pr_story.specs.declared.entry.Entry.{Entry}
 use Rattle.pr_wire.specs.Reading.{eight_at}
 use Rattle.pr_wire.specs.Spelling.{eight}
 use Rattle.pr_wire.proofs.Fields.{IsBytes, eight_field, length-eight, some_is}
 use Rattle.pr_keep.specs.declared.fault.KeepFault.{KeepFault}
 use Rattle.pr_keep.specs.declared.fault.KeepFault.TheVariants.{Failed, NoMemory, Damaged}
-use Rattle.pr_keep.specs.declared.records.Gate.TheVariants.{Missing, Closed, Open}
+use Rattle.pr_keep.specs.declared.records.Gate.TheVariants.{Missing, Closed}
 use Rattle.pr_keep.specs.declared.records.Record.{Record}
 use Rattle.pr_keep.specs.Calls.{GateIs, IsClosed, IsDamagedAt, IsNotDamaged, IsNothing, IsPiece, IsRecord}
 use Rattle.pr_keep.specs.Entries.{IsKeepable}

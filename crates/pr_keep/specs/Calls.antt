@@ -1,17 +1,15 @@
 -- What the calls on a kept file do.
-use Rattle.std.specs.Prelude.{◌≡◌, ◌≢◌, ◌⊎◌, ◌<◌, ◌≤◌, ◌+◌, ◌^◌, ℕ, List, [], ◌∷◌, ◌++◌, length, take, drop, Option, Some, None, Result, Ok, Err, IsErrOf, OnErr, OnOk}
+use Rattle.std.specs.Prelude.{◌≡◌, ◌≢◌, ◌⊎◌, ◌<◌, ◌≤◌, ◌+◌, ◌^◌, ℕ, List, [], ◌∷◌, ◌++◌, length, take, drop, Option, Some, None, Result, Ok, Err, IsErrOf}
 use Rattle.pr_ports.specs.Faults.{HasRisen}
 use Rattle.pr_story.specs.declared.entry.Entry.{Entry}
 use Rattle.pr_wire.specs.Spelling.{eight}
 use Rattle.pr_keep.specs.declared.fault.KeepFault.{KeepFault}
 use Rattle.pr_keep.specs.declared.fault.KeepFault.TheVariants.{Failed, NoMemory, Damaged}
-use Rattle.pr_keep.specs.declared.disk.DiskFault.{DiskFault}
 use Rattle.pr_keep.specs.declared.records.Gate.{Gate}
 use Rattle.pr_keep.specs.declared.records.Gate.TheVariants as gates
 use Rattle.pr_keep.specs.declared.records.Record.{Record}
 use Rattle.pr_keep.specs.Disk.{IsTorn, LeavesOnly, NoneNew, Only, State, counted, written}
 use Rattle.pr_keep.specs.Entries.{IsKeepable}
-use Rattle.pr_keep.specs.Faults.{fault_of}
 use Rattle.pr_keep.specs.Files.{StandsFor, front, record_text}
 
 -- ---- faults

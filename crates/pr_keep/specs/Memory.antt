@@ -1,5 +1,5 @@
 -- A disk in memory, by what was done to it.
-use Rattle.std.specs.Prelude.{◌≡◌, ◌⊎◌, ◌≤◌, ◌+◌, ◌==◌, ℕ, cond, List, [], ◌∷◌, length, take, drop, Some, refl}
+use Rattle.std.specs.Prelude.{◌≡◌, ◌⊎◌, ◌≤◌, ◌==◌, ℕ, cond, List, [], ◌∷◌, length, take, drop, Some, refl}
 use Rattle.std.proofs.Math.Nat.{not-suc-le_self}
 use mathlib.Core.Logic.{inl, inr}
 use Rattle.pr_keep.specs.declared.change.Change.{Change}

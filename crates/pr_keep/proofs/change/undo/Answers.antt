@@ -1,4 +1,4 @@
-use Rattle.std.proofs.Common.{List, ℕ, Vec, Global, sym, ap, ◌∙◌, arith}
+use Rattle.std.proofs.Common.{ℕ, Vec, Global, ap, ◌∙◌, arith}
 use Rattle.pr_keep.specs.Disk.{written}
 use Rattle.pr_keep.proofs.DiskLemmas.{undone_past, undone_within}
 use Rattle.pr_keep.proofs.change.undo.Goals as goal

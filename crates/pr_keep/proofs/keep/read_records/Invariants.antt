@@ -1,8 +1,5 @@
-use Rattle.std.proofs.Common.{◌≡◌, ◌-◌, ◌++◌, ◌≤◌, length, drop}
-use Rattle.std.specs.List.{AllByRecursion}
+use Rattle.std.proofs.Common.{◌-◌, length}
 use Rattle.pr_keep.specs.Calls.{IsUntouched}
-use Rattle.pr_keep.specs.Entries.{IsKeepable}
-use Rattle.pr_keep.specs.Files.{front}
 use Rattle.pr_keep.proofs.Causes.{HasAnsweredSo}
 use Rattle.pr_keep.proofs.KeepLemmas.{IsFront}
 use Rattle.pr_keep.proofs.keep.read_records.Given as goal

@@ -1,8 +1,7 @@
-use Rattle.std.proofs.Common.{◌≡◌, ℕ, List, [], ◌∷◌, ◌++◌, length, sym, ap, subst, ◌∙◌, arith}
+use Rattle.std.proofs.Common.{ℕ, List, sym, subst, ◌∙◌, arith}
 use Rattle.std.proofs.lemmas.Result.{err_from_is_err_and}
 use Rattle.pr_keep.specs.Files.{StandsFor}
-use Rattle.pr_keep.specs.Spelling.{counted_text, entry_text}
-use Rattle.pr_keep.proofs.AppendLemmas.{both_moments, fewer, first_moments, kept_more, none_counted, staged_disk, synced_stands, two_more}
+use Rattle.pr_keep.proofs.AppendLemmas.{both_moments, first_moments, kept_more, none_counted, staged_disk, synced_stands, two_more}
 use Rattle.pr_keep.proofs.KeepLemmas.{staged_stands}
 use Rattle.pr_keep.proofs.keep.Keep.append.Goals as goal
 
