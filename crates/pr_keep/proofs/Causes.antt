@@ -34,6 +34,10 @@ answers old new s result a other = record {
   quiet = λ n is no_failure. a.quiet n is (λ e. absurd cc);
 }
 
+-- a call that answered, whatever it answered
+pub answered : {S : Type 0} {old new : State} {s : S} → HasCause old new (Ok s) → HasAnsweredSo old new
+answered {S} {old} {new} {s} a = answers old new s (Ok 0) a (λ e. absurd cc)
+
 pub then_answers : (old mid new : State) → HasAnsweredSo old mid → HasAnsweredSo mid new → HasAnsweredSo old new
 then_answers old mid new a b = record {
   later = omega (arith, a.later, b.later);

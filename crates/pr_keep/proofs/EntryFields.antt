@@ -1,8 +1,8 @@
 -- Entries with their nodes.
-use Rattle.std.proofs.Common.{◌≡◌, ℕ, List, [], ◌∷◌, ◌++◌, length, Some, refl, sym, ap, subst, ◌∙◌}
+use Rattle.std.proofs.Common.{◌≡◌, ℕ, List, [], ◌++◌, length, Some, refl, sym, ap, subst, ◌∙◌}
 use Rattle.std.specs.Prelude.{◌==◌}
 use Rattle.std.proofs.lemmas.Bool.{eqb-true}
-use Rattle.std.proofs.lemmas.List.{append-nil}
+use Rattle.std.proofs.lemmas.List.{append-nil, nil_from_length}
 use Rattle.pr_story.specs.declared.entry.Entry.{Entry}
 use Rattle.pr_story.specs.declared.event.Event.{Event}
 use Rattle.pr_wire.specs.Reading.{eight_at, four_at, given}
@@ -35,17 +35,13 @@ entry_field = record { takes = entry_takes; again = entry_again }
 
 -- ---- all of the bytes
 
-nil_from : (xs : List ℕ) → length xs ≡ 0 → xs ≡ []
-nil_from [] e = refl
-nil_from (x ∷ xs) e = absurd cc
-
 pub whole_takes : (bytes : List ℕ) (e : ℕ × Entry) → IsBytes bytes → whole_entry_at bytes ≡ Some e → (bytes ≡ entry_text e) × IsSpelled e
 unfolding whole_entry_at
 whole_takes bytes e fits is =
     let a = bind_some (entry_at bytes) (λ entry. given (length entry.1 == 0) entry.0) e is in
     let g = given_some (length a.0.1 == 0) a.0.0 e a.2 in
     let read = entry_takes bytes a.0 fits a.1 in
-    let nothing : a.0.1 ≡ [] = nil_from a.0.1 (eqb-true _ _ g.0) in
+    let nothing : a.0.1 ≡ [] = nil_from_length a.0.1 (eqb-true _ _ g.0) in
     let P : ℕ × Entry → Type 0 = λ d. (bytes ≡ entry_text d) × IsSpelled d in
     subst P g.1 (read.parts ∙ ap (λ (t : List ℕ). entry_text a.0.0 ++ t) nothing ∙ append-nil (entry_text a.0.0), read.holds)
 

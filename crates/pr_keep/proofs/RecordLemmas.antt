@@ -1,6 +1,6 @@
 -- What stands at a place where a gate has to stand.
-use Rattle.std.proofs.Common.{◌≡◌, ◌≢◌, inl, inr, ℕ, ◌+◌, ◌-◌, ◌^◌, ◌<◌, ◌≤◌, List, [], ◌∷◌, ◌++◌, length, take, drop, Some, None, refl, sym, ap, ◌∙◌, append_assoc, arith}
-use Rattle.std.proofs.lemmas.List.{drop-drop, drop-take, length-append, length-drop, length-take, take_at, take_all, take-append-drop, take-take}
+use Rattle.std.proofs.Common.{◌≡◌, ◌≢◌, inl, inr, ℕ, ◌+◌, ◌-◌, ◌^◌, ◌<◌, ◌≤◌, List, [], ◌∷◌, ◌++◌, length, take, drop, Some, None, sym, ap, ◌∙◌, append_assoc, arith}
+use Rattle.std.proofs.lemmas.List.{drop-drop, drop-take, length-append, length-drop, length-take, nil_from_length, take_at, take_all, take-append-drop, take-take}
 use Rattle.pr_story.specs.declared.entry.Entry.{Entry}
 use Rattle.pr_wire.specs.Reading.{eight_at}
 use Rattle.pr_wire.specs.Spelling.{eight}
@@ -80,13 +80,9 @@ module _ (rest : List ℕ) (len : ℕ) (few : len < 2 ^ 64) (head : take 9 rest 
 
 -- ---- the bytes at a gate
 
-nil_is : (xs : List ℕ) → length xs ≡ 0 → xs ≡ []
-nil_is [] e = refl
-nil_is (x ∷ xs) e = absurd cc
-
 pub missing : (rest : List ℕ) → GateIs (take 9 rest) Missing → IsNothing rest
 missing rest (inl none) =
-    let nil : rest ≡ [] = nil_is rest (omega (arith, length-take 9 rest, ap length none)) in
+    let nil : rest ≡ [] = nil_from_length rest (omega (arith, length-take 9 rest, ap length none)) in
     record {
       no_gate = λ gate behind shut is. absurd (let e : [] ≡ gate ∷ behind = sym nil ∙ is in cc);
       no_record = λ e behind h is. absurd (let n : 0 ≡ 9 + length (entry_text e) + length behind = omega (arith, ap length (sym nil ∙ is), length-append (record_text e) behind, length-record e) in omega (arith, n));

@@ -3,16 +3,11 @@ use Rattle.std.proofs.lemmas.Result.{err_from_is_err_and}
 use Rattle.pr_story.specs.declared.entry.Entry.{Entry}
 use Rattle.pr_keep.specs.declared.records.Record.{Record}
 use Rattle.pr_keep.specs.declared.fault.KeepFault.TheVariants.{NoMemory}
-use Rattle.pr_keep.specs.Calls.{HasCause, IsRecord, PlaceIs}
-use Rattle.pr_keep.specs.Disk.{State}
-use Rattle.pr_keep.proofs.Causes.{HasAnsweredSo, answers, no_call, then_answers, then_fails}
+use Rattle.pr_keep.specs.Calls.{IsRecord, PlaceIs}
+use Rattle.pr_keep.proofs.Causes.{answered, answers, no_call, then_answers, then_fails}
 use Rattle.pr_keep.proofs.KeepLemmas.{IsFront, no_entries, one_more, shrinks}
 use Rattle.pr_keep.proofs.Moments.{untouched, untouched_more}
 use Rattle.pr_keep.proofs.keep.read_records.Goals as goal
-
--- a call that answered, whatever it answered
-answered : {S : Type 0} {old new : State} {s : S} → HasCause old new (Ok s) → HasAnsweredSo old new
-answered {S} {old} {new} {s} a = answers old new s (Ok 0) a (λ e. absurd cc)
 
 pub loop-entries-init : goal.loop-entries-init
 loop-entries-init g c = (

@@ -1,15 +1,10 @@
 use Rattle.std.proofs.Common.{◌<◌, ◌+◌, ◌-◌, ℕ, List, length, Ok, subst, arith}
 use Rattle.std.proofs.lemmas.Result.{err_from_is_err_and}
-use Rattle.pr_keep.specs.Calls.{HasCause, IsPiece}
-use Rattle.pr_keep.specs.Disk.{State}
-use Rattle.pr_keep.proofs.Causes.{HasAnsweredSo, answers, then_answers, then_fails}
+use Rattle.pr_keep.specs.Calls.{IsPiece}
+use Rattle.pr_keep.proofs.Causes.{answered, answers, then_answers, then_fails}
 use Rattle.pr_keep.proofs.Moments.{untouched_more}
 use Rattle.pr_keep.proofs.RecordLemmas.{more_read}
 use Rattle.pr_keep.proofs.records.read_some.Goals as goal
-
--- a call that answered, whatever it answered
-answered : {S : Type 0} {old new : State} {s : S} → HasCause old new (Ok s) → HasAnsweredSo old new
-answered {S} {old} {new} {s} a = answers old new s (Ok 0) a (λ e. absurd cc)
 
 pub loop-bytes-preserved : goal.loop-bytes-preserved
 loop-bytes-preserved g c =
