@@ -1,0 +1,16 @@
+// Laws of asks.
+ghost use Rattle.pr_serve.specs.declared.ask.Ask.{Ask};
+ghost use Rattle.pr_serve.specs.Asks.{IsAsk, ask_at, ask_text};
+ghost use Rattle.std.specs.Prelude.{◌≡◌, ◌<◌, ◌++◌, List, ℕ, Some, slice_index};
+
+/// What is read of bytes is an ask that they begin with the spelling of, and an ask that was spelled is read again,
+/// whatever follows it.
+pub fn asks_have_one_spelling()
+    ensures read { (bytes rest : List ℕ) (q : Ask) → ((i : ℕ) → slice_index bytes i < 256) → ask_at bytes ≡ Some (q, rest) → IsAsk q × (bytes ≡ ask_text q ++ rest) }
+    ensures again { (q : Ask) (rest : List ℕ) → IsAsk q → ask_at (ask_text q ++ rest) ≡ Some (q, rest) }
+{}
+
+/// No ask begins another one: whatever bytes follow two asks, they are the same where the bytes are.
+pub fn no_ask_begins_another()
+    ensures { (p q : Ask) (x y : List ℕ) → IsAsk p → IsAsk q → ask_text p ++ x ≡ ask_text q ++ y → (p ≡ q) × (x ≡ y) }
+{}
