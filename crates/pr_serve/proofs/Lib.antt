@@ -1,1 +1,5 @@
 pub mod AskField
+pub mod Taking
+pub mod FrameParts
+pub mod TakenIn
+pub mod PullEnds

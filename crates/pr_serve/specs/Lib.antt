@@ -1,1 +1,5 @@
 pub mod Asks
+pub mod Inputs
+pub mod Frames
+pub mod Faults
+pub mod Pulling

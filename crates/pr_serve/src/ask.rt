@@ -14,8 +14,8 @@ use std::alloc::Global;
 /// The most turns that an ask is for.
 pub const MOST_TURNS: u64 = 1_000_000;
 
-// The first byte of an ask.
-const MARK: u8 = 81;
+/// The first byte of an ask.
+pub const MARK: u8 = 81;
 
 /// An ask for a stream (docs/WIRE.md): its number, the vector that its destination starts at, the names of the
 /// subscription, whether bodies are wanted, and the most turns of the answer. It is for at least one name, and for 1 to
