@@ -19,7 +19,7 @@ use Rattle.pr_serve.specs.declared.stop.Stop.TheVariants as stops
 use Rattle.pr_serve.specs.declared.framing.Part.{Part}
 use Rattle.pr_serve.specs.Frames.{IsFoundPart, IsFrame, IsFramed, IsPart, IsRestOfFrame, IsWanted}
 use Rattle.pr_serve.specs.Inputs.{Input, IsNextByte, IsOver, NoneBegins, NoneStands, Stops, Takes}
-use Rattle.pr_serve.proofs.Taking.{failed_then, takes_no_more, takes_then}
+use Rattle.pr_serve.proofs.Taking.{failed_then, stopped_next, takes_none, takes_then}
 
 abbrev most : ℕ
 most = 18446744073709551615
@@ -86,14 +86,8 @@ module _ (feed a b : Fed) (first byte : ℕ) (bytes : List ℕ) (limit : feed.li
 
 -- ---- how reading a frame stops
 
-stops_with : (first : ℕ) (a b c : Input) (bytes : List ℕ) (stop : Stop) → Takes a b bytes → IsPartial most (first ∷ bytes) → IsNextByte b c (Err stop) → IsRestOfFrame first a c (Err stop)
-stops_with first a b c bytes stops.Bad taken part next = absurd next
-stops_with first a b c bytes stops.NoMemory taken part next = absurd next
-stops_with first a b c bytes stops.Failed taken part next = (bytes, takes_no_more a b c bytes taken next.0, (partial_stands (first ∷ bytes) part, failed_then a b c taken.rises next.1))
-stops_with first a b c bytes stops.TooLarge taken part next = (bytes, takes_no_more a b c bytes taken next.0, (partial_stands (first ∷ bytes) part, next.1))
-
 pub frame_stops : (first : ℕ) (a b c : Input) (bytes : List ℕ) (stop : Stop) (r : Result Msg Stop) → r ≡ Err stop → Takes a b bytes → IsPartial most (first ∷ bytes) → IsNextByte b c (Err stop) → IsRestOfFrame first a c r
-frame_stops first a b c bytes stop r is taken part next = subst (λ (x : Result Msg Stop). IsRestOfFrame first a c x) (sym is) (stops_with first a b c bytes stop taken part next)
+frame_stops first a b c bytes stop r is taken part next = subst (λ (x : Result Msg Stop). IsRestOfFrame first a c x) (sym is) (let s = stopped_next IsFrame a b c bytes (first ∷ bytes) stop taken (partial_stands (first ∷ bytes) part) next in (bytes, s.0, s.1))
 
 -- ---- a part
 
@@ -145,14 +139,8 @@ is_stop {X = X} {E = E} (Err e) P stop err all = ap (λ (f : E). let r : Result 
 pub byte_is : (a b : Input) (next other : Option ℕ) → next ≡ other → IsNextByte a b (Ok next) → IsNextByte a b (Ok other)
 byte_is a b next other e is = subst (λ (o : Option ℕ). IsNextByte a b (Ok o)) e is
 
-stops_first : (nodes : ℕ) (streams : List ℕ) (a b : Input) (stop : Stop) → IsNextByte a b (Err stop) → IsFoundPart nodes streams a b (Err stop)
-stops_first nodes streams a b stops.Bad next = absurd next
-stops_first nodes streams a b stops.NoMemory next = absurd next
-stops_first nodes streams a b stops.Failed next = ([], next.0, (nothing_stands nodes streams, next.1))
-stops_first nodes streams a b stops.TooLarge next = ([], next.0, (nothing_stands nodes streams, next.1))
-
 pub first_stops : (nodes : ℕ) (streams : List ℕ) (a b : Input) (stop : Stop) (r : Result Part Stop) → r ≡ Err stop → IsNextByte a b (Err stop) → IsFoundPart nodes streams a b r
-first_stops nodes streams a b stop r is next = subst (λ (x : Result Part Stop). IsFoundPart nodes streams a b x) (sym is) (stops_first nodes streams a b stop next)
+first_stops nodes streams a b stop r is next = subst (λ (x : Result Part Stop). IsFoundPart nodes streams a b x) (sym is) (let s = stopped_next (IsPart nodes streams) a a b [] [] stop (takes_none a) (nothing_stands nodes streams) next in ([], s.0, s.1))
 
 pub rest_stops : (nodes : ℕ) (streams : List ℕ) (first : ℕ) (a b c : Input) (stop : Stop) (r : Result Part Stop) → r ≡ Err stop → first ≢ 0 → Takes a b (first ∷ []) → IsRestOfFrame first b c (Err stop) → IsFoundPart nodes streams a c r
 rest_stops nodes streams first a b c stop r is no_end taken (bytes, more, why) = subst (λ (x : Result Part Stop). IsFoundPart nodes streams a c x) (sym is) (first ∷ bytes, takes_then a b c (first ∷ []) bytes taken more, part_stops nodes streams first a b c bytes stop no_end taken.rises why)

@@ -29,7 +29,7 @@ takes_in : (m : Msg) (taken : Taken) (e : Entry) → IsTaken m taken e → Takes
 takes_in m (takens.Accepted time) e is = subst (λ (event : Event). TakesIn m event) (sym is.0.1) refl
 takes_in m (takens.Gap needs has time) e is = subst (λ (event : Event). TakesIn m event) (sym is.0) refl
 
-abbrev nobody : ℕ → Standing
+abbrev pub nobody : ℕ → Standing
 nobody s = record { names = []; bodies = false; position = []; number = 0; time = 0; sent = λ o t. false }
 
 -- a call that adds one entry for a message, whoever stands and whatever is needed
@@ -39,8 +39,8 @@ took_one a b m taken adds =
       one.entry,
       record {
         lawful = λ sessions needs.
-          let other : Adds a b sessions needs 0 (IsTaken m taken) = adds sessions needs in
-          subst (λ (e : Entry). IsOwnLawful sessions needs a.sets a.id a.journal e) (first_is other.entry one.entry a.journal a.journal (sym other.follows ∙ one.follows)) other.lawful;
+            let other : Adds a b sessions needs 0 (IsTaken m taken) = adds sessions needs in
+            subst (λ (e : Entry). IsOwnLawful sessions needs a.sets a.id a.journal e) (first_is other.entry one.entry a.journal a.journal (sym other.follows ∙ one.follows)) other.lawful;
         event = takes_in m taken one.entry one.is;
         caller = one.by;
         early = one.early;

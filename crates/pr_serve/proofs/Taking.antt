@@ -3,7 +3,7 @@ use Rattle.std.proofs.Common.{◌≡◌, ◌⊎◌, ◌<◌, ◌≤◌, ◌+◌,
 use Rattle.std.specs.Io.KnownBytes.{Consumes, IsAtEnd, prepend_known}
 use Rattle.std.proofs.lemmas.List.{append-nil, length-append}
 use Rattle.pr_ports.specs.Faults.{HasRisen}
-use Rattle.pr_serve.specs.Inputs.{HasFailed, Held, Input, IsNextByte, Takes, ahead}
+use Rattle.pr_serve.specs.Inputs.{HasFailed, Held, Input, IsNextByte, NoneStands, Stops, Takes, ahead}
 use Rattle.pr_serve.specs.declared.stop.Stop.{Stop}
 use Rattle.pr_serve.specs.declared.stop.Stop.TheVariants as stops
 
@@ -36,6 +36,23 @@ risen_then a b c le (inr last) = inr last
 
 pub failed_then : (a b c : Input) → a.faults ≤ b.faults → HasFailed b c → HasFailed a c
 failed_then a b c le f = record { rises = risen_then a.faults b.faults c.faults le f.rises; held = f.held }
+
+-- ---- stops
+
+module _ (IsText : List ℕ → Type 0) where
+  pub stopped_next : (a b c : Input) (bytes all : List ℕ) (stop : Stop) → Takes a b bytes → NoneStands IsText all → IsNextByte b c (Err stop) → Takes a c bytes × Stops IsText a c all stop
+  stopped_next a b c bytes all stops.Bad taken none next = absurd next
+  stopped_next a b c bytes all stops.NoMemory taken none next = absurd next
+  stopped_next a b c bytes all stops.Failed taken none next = (takes_no_more a b c bytes taken next.0, (none, failed_then a b c taken.rises next.1))
+  stopped_next a b c bytes all stops.TooLarge taken none next = (takes_no_more a b c bytes taken next.0, (none, next.1))
+
+  pub stopped_before : (a b c : Input) (all : List ℕ) (stop : Stop) → a.faults ≤ b.faults → Stops IsText b c all stop → Stops IsText a c all stop
+  stopped_before a b c all stops.Bad rises s = s
+  stopped_before a b c all stops.NoMemory rises s = tt
+  stopped_before a b c all stops.Failed rises s = (s.0, failed_then a b c rises s.1)
+  stopped_before a b c all stops.TooLarge rises s = s
+
+-- ---- what was read
 
 -- what was taken of an input and what is held of it, is what was read
 pub read_so_far : (left now : Option (List ℕ)) (held bytes : List ℕ) → Consumes (prepend_known [] left) (prepend_known held now) bytes → Consumes left now (bytes ++ held)

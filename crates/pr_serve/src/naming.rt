@@ -27,7 +27,10 @@ fn names_kind(kind: &Kind, nodes: u32) -> bool
         }
         Kind::Imprecise { from, to, .. } => names_vector(from, nodes) && names_vector(to, nodes),
         Kind::Checkpoint {
-            to, floor, rows, ..
+            to,
+            floor,
+            rows,
+            ..
         } => {
             names_vector(to, nodes)
                 && names_vector(floor, nodes)
@@ -68,7 +71,12 @@ fn names_prev(prev: &Option<Stamp>, nodes: u32) -> bool
 fn names_row(row: &Row, nodes: u32) -> bool
     ensures { IsTrue result ↔ HasRow nodes row.now }
 {
-    names_stamp(&row.newest, nodes) && row.marks.as_slice().iter().all(|mark| names_mark(mark, nodes))
+    names_stamp(&row.newest, nodes)
+        && row
+            .marks
+            .as_slice()
+            .iter()
+            .all(|mark| names_mark(mark, nodes))
 }
 
 fn names_mark(mark: &Mark, nodes: u32) -> bool

@@ -40,6 +40,8 @@ returns-else-is_wanted-clause-so g c =
     let z = input (left m.source) (faults m.source) m.window in
     let one = byte_is x y c.in_ok-first.field-0 (Some first) c.in-Some.is c.in_ok-first.ensures.so in
     let framed = c.in_ok-msg.ensures.so in
-    let not_wanted : ¬ IsWanted c.args.nodes c.args.streams.now c.in_ok-msg.msg = λ w. let yes : c.is_wanted.result ≡ true = c.is_wanted.ensures.1 w in let other : false ≡ true = sym c.if-is_wanted.false ∙ yes in absurd cc in
-    (first ∷ framed.1, takes_then x y z (first ∷ []) framed.1 one framed.4,
-    (omega arith, inl (subst (λ (t : List ℕ). NoneBegins (IsPart c.args.nodes c.args.streams.now) t) (sym framed.3) (unwanted_begins c.args.nodes c.args.streams.now framed.0 c.in_ok-msg.msg framed.2 not_wanted))))
+    let not_wanted : ¬ IsWanted c.args.nodes c.args.streams.now c.in_ok-msg.msg = λ w. let yes : c.is_wanted.result ≡ true = c.is_wanted.ensures.1 w in let other : false ≡ true = sym c.if-is_wanted.false ∙ yes in absurd cc in (
+      first ∷ framed.1,
+      takes_then x y z (first ∷ []) framed.1 one framed.4,
+      (omega arith, inl (subst (λ (t : List ℕ). NoneBegins (IsPart c.args.nodes c.args.streams.now) t) (sym framed.3) (unwanted_begins c.args.nodes c.args.streams.now framed.0 c.in_ok-msg.msg framed.2 not_wanted))),
+    )
