@@ -199,10 +199,14 @@ extends_more bytes coming byte extends more rest =
 pub extends_all : (bytes : List ℕ) (coming : Coming) → Extends bytes coming → coming ≡ Nothing → (rest : List ℕ) → behind (bytes ++ rest) (Front 5) ≡ Some rest
 extends_all bytes coming extends over rest = extends rest ∙ ap (λ (c : Coming). behind rest c) over ∙ behind_all rest
 
+-- more bytes belong to it
+pub part_of_ask : (bytes : List ℕ) (coming : Coming) → Extends bytes coming → coming ≢ Nothing → behind bytes (Front 5) ≡ None
+part_of_ask bytes coming extends more = ap (λ (t : List ℕ). behind t (Front 5)) (sym (append-nil bytes)) ∙ extends [] ∙ nothing_behind coming more
+
 -- no ask stands in less than one
 pub less_than_ask : (bytes : List ℕ) (coming : Coming) → Extends bytes coming → coming ≢ Nothing → NoneStands IsAskText bytes
 less_than_ask bytes coming extends more text x (q, is, spelled) e =
-    let here : behind bytes (Front 5) ≡ None = ap (λ (t : List ℕ). behind t (Front 5)) (sym (append-nil bytes)) ∙ extends [] ∙ nothing_behind coming more in
+    let here : behind bytes (Front 5) ≡ None = part_of_ask bytes coming extends more in
     let there : behind bytes (Front 5) ≡ Some x = ap (λ (t : List ℕ). behind t (Front 5)) (sym e ∙ ap (λ (t : List ℕ). t ++ x) spelled) ∙ behind_ask q x is in
     no_some x (sym there ∙ here)
   where

@@ -13,11 +13,11 @@ use Rattle.pr_wire.specs.Messages.{HasSpelling}
 use Rattle.pr_wire.specs.declared.format.Format.TheVariants.{One, Two}
 use Rattle.pr_wire.specs.Spelling.{content, eight, format_byte, spelling}
 use Rattle.pr_wire.proofs.FieldLaws.{bad_stays}
-use Rattle.pr_wire.proofs.FrameLemmas.{length-spelling, never_bad, never_part, one_front}
+use Rattle.pr_wire.proofs.FrameLemmas.{length-spelling, never_bad, never_part, nothing_in, one_front}
 use Rattle.pr_serve.specs.declared.stop.Stop.{Stop}
 use Rattle.pr_serve.specs.declared.stop.Stop.TheVariants as stops
 use Rattle.pr_serve.specs.declared.framing.Part.{Part}
-use Rattle.pr_serve.specs.Frames.{IsFoundPart, IsFrame, IsFramed, IsPart, IsRestOfFrame, IsWanted}
+use Rattle.pr_serve.specs.Frames.{IsFoundPart, IsFrame, IsFrameUnderWay, IsFramed, IsPart, IsRestOfFrame, IsWanted}
 use Rattle.pr_serve.specs.Inputs.{Input, IsNextByte, IsOver, NoneBegins, NoneStands, Stops, Takes}
 use Rattle.pr_serve.proofs.Taking.{failed_then, stopped_next, takes_none, takes_then}
 
@@ -87,7 +87,7 @@ module _ (feed a b : Fed) (first byte : ℕ) (bytes : List ℕ) (limit : feed.li
 -- ---- how reading a frame stops
 
 pub frame_stops : (first : ℕ) (a b c : Input) (bytes : List ℕ) (stop : Stop) (r : Result Msg Stop) → r ≡ Err stop → Takes a b bytes → IsPartial most (first ∷ bytes) → IsNextByte b c (Err stop) → IsRestOfFrame first a c r
-frame_stops first a b c bytes stop r is taken part next = subst (λ (x : Result Msg Stop). IsRestOfFrame first a c x) (sym is) (let s = stopped_next IsFrame a b c bytes (first ∷ bytes) stop taken (partial_stands (first ∷ bytes) part) next in (bytes, s.0, s.1))
+frame_stops first a b c bytes stop r is taken part next = subst (λ (x : Result Msg Stop). IsRestOfFrame first a c x) (sym is) (let s = stopped_next IsFrame IsFrameUnderWay a b c bytes (first ∷ bytes) stop taken part (partial_stands (first ∷ bytes) part) next in (bytes, s.0, s.1))
 
 -- ---- a part
 
@@ -111,11 +111,11 @@ part_stands nodes streams first bytes no_end none text x (inl is) e = no_end (sy
 part_stands nodes streams first bytes no_end none text x (inr (f, m, framed, wanted, is)) e = none text x (f, m, framed, is) e
 
 -- what stops a frame stops what may stand there
-pub part_stops : (nodes : ℕ) (streams : List ℕ) (first : ℕ) (a b c : Input) (bytes : List ℕ) (stop : Stop) → first ≢ 0 → a.faults ≤ b.faults → Stops IsFrame b c (first ∷ bytes) stop → Stops (IsPart nodes streams) a c (first ∷ bytes) stop
+pub part_stops : (nodes : ℕ) (streams : List ℕ) (first : ℕ) (a b c : Input) (bytes : List ℕ) (stop : Stop) → first ≢ 0 → a.faults ≤ b.faults → Stops IsFrame IsFrameUnderWay b c (first ∷ bytes) stop → Stops (IsPart nodes streams) IsFrameUnderWay a c (first ∷ bytes) stop
 part_stops nodes streams first a b c bytes stops.Bad no_end rises (some, inl none) = (some, inl (part_begins nodes streams first bytes no_end none))
 part_stops nodes streams first a b c bytes stops.Bad no_end rises (some, inr over) = (some, inr (part_stands nodes streams first bytes no_end over.0, over.1))
 part_stops nodes streams first a b c bytes stops.Failed no_end rises s = (part_stands nodes streams first bytes no_end s.0, failed_then a b c rises s.1)
-part_stops nodes streams first a b c bytes stops.TooLarge no_end rises s = (part_stands nodes streams first bytes no_end s.0, s.1)
+part_stops nodes streams first a b c bytes stops.TooLarge no_end rises s = (s.0, part_stands nodes streams first bytes no_end s.1, s.2)
 part_stops nodes streams first a b c bytes stops.NoMemory no_end rises s = tt
 
 no_end_byte : (f : Format) (x y : List ℕ) → 0 ∷ x ≡ format_byte f ∷ y → ⊥
@@ -140,7 +140,7 @@ pub byte_is : (a b : Input) (next other : Option ℕ) → next ≡ other → IsN
 byte_is a b next other e is = subst (λ (o : Option ℕ). IsNextByte a b (Ok o)) e is
 
 pub first_stops : (nodes : ℕ) (streams : List ℕ) (a b : Input) (stop : Stop) (r : Result Part Stop) → r ≡ Err stop → IsNextByte a b (Err stop) → IsFoundPart nodes streams a b r
-first_stops nodes streams a b stop r is next = subst (λ (x : Result Part Stop). IsFoundPart nodes streams a b x) (sym is) (let s = stopped_next (IsPart nodes streams) a a b [] [] stop (takes_none a) (nothing_stands nodes streams) next in ([], s.0, s.1))
+first_stops nodes streams a b stop r is next = subst (λ (x : Result Part Stop). IsFoundPart nodes streams a b x) (sym is) (let s = stopped_next (IsPart nodes streams) IsFrameUnderWay a a b [] [] stop (takes_none a) (nothing_in most) (nothing_stands nodes streams) next in ([], s.0, s.1))
 
 pub rest_stops : (nodes : ℕ) (streams : List ℕ) (first : ℕ) (a b c : Input) (stop : Stop) (r : Result Part Stop) → r ≡ Err stop → first ≢ 0 → Takes a b (first ∷ []) → IsRestOfFrame first b c (Err stop) → IsFoundPart nodes streams a c r
 rest_stops nodes streams first a b c stop r is no_end taken (bytes, more, why) = subst (λ (x : Result Part Stop). IsFoundPart nodes streams a c x) (sym is) (first ∷ bytes, takes_then a b c (first ∷ []) bytes taken more, part_stops nodes streams first a b c bytes stop no_end taken.rises why)

@@ -13,7 +13,7 @@ use Rattle.pr_serve.specs.declared.serve_fault.ServeFault.TheVariants as faults
 use Rattle.pr_serve.specs.declared.stop.Stop.{Stop}
 use Rattle.pr_serve.specs.declared.stop.Stop.TheVariants as stops
 use Rattle.pr_serve.specs.Faults.{fault_at}
-use Rattle.pr_serve.specs.Frames.{IsFramed, IsPart, IsWanted}
+use Rattle.pr_serve.specs.Frames.{IsFrameUnderWay, IsFramed, IsPart, IsWanted}
 use Rattle.pr_serve.specs.Inputs.{Held, Input, IsOver, NoneBegins, NoneStands, Stops, Takes, input}
 use Rattle.pr_serve.specs.Pulling.{AreWanted, EndByte, Frame, HasPulled, Pull, Pulled, PulledAll, PullsSo, TakesOne, TookIn, messages, pulled_text}
 use Rattle.pr_serve.proofs.Taking.{read_so_far, risen_then, takes_then}
@@ -98,18 +98,18 @@ module _ (nodes : ℕ) (streams : List ℕ) (left left_now : Option (List ℕ)) 
       just : (bytes : List ℕ) → held_end.bytes ≡ [] → bytes ≡ bytes ++ held_end.bytes
       just bytes none = sym (append-nil bytes) ∙ ap (λ (t : List ℕ). bytes ++ t) (sym none)
 
-      stopped_at : (bytes : List ℕ) (stop : Stop) → Takes here at_end bytes → held_end.taken ≤ 67108864 → Stops (IsPart nodes streams) here at_end bytes stop → PullsSo nodes streams (pull_of left fault a) (pull_of left_end fault_end b) (Err (fault_at stop held.taken))
+      stopped_at : (bytes : List ℕ) (stop : Stop) → Takes here at_end bytes → held_end.taken ≤ 67108864 → Stops (IsPart nodes streams) IsFrameUnderWay here at_end bytes stop → PullsSo nodes streams (pull_of left fault a) (pull_of left_end fault_end b) (Err (fault_at stop held.taken))
       stopped_at bytes stops.Bad taken most (some, inl none) =
           (sofar.parts, bytes ++ held_end.bytes, pulled bytes b taken refl refl refl, sofar.taken.count ∙ omega arith, omega (arith, some, most, taken.count), inl (begins_with bytes none))
       stopped_at bytes stops.Bad taken most (some, inr over) =
           (sofar.parts, bytes ++ held_end.bytes, pulled bytes b taken refl refl refl, sofar.taken.count ∙ omega arith, omega (arith, some, most, taken.count), inr (subst (λ (t : List ℕ). NoneStands (IsPart nodes streams) t) (just bytes over.1.held) over.0, over.1.left))
       stopped_at bytes stops.Failed taken most (none, failed) =
           (risen_then fault fault_now fault_end sofar.taken.rises failed.rises, (sofar.parts, bytes ++ held_end.bytes, pulled bytes b taken refl refl refl, subst (λ (t : List ℕ). NoneStands (IsPart nodes streams) t) (just bytes failed.held) none))
-      stopped_at bytes stops.TooLarge taken most (none, full) =
-          (sofar.parts, bytes, held_end.bytes, pulled bytes b taken refl refl refl, omega (arith, full.taken, taken.count, sofar.taken.count), full.held, none)
+      stopped_at bytes stops.TooLarge taken most (under, none, full) =
+          (sofar.parts, bytes, held_end.bytes, pulled bytes b taken refl refl refl, omega (arith, full.taken, taken.count, sofar.taken.count), full.held, under, none)
       stopped_at bytes stops.NoMemory taken most why = (sofar.parts, bytes ++ held_end.bytes, pulled bytes b taken refl refl refl)
 
-      pub stopped : (bytes : List ℕ) (stop : Stop) (answer : ServeFault) → answer ≡ fault_at stop held.taken → Takes here at_end bytes → held_end.taken ≤ 67108864 → Stops (IsPart nodes streams) here at_end bytes stop → PullsSo nodes streams (pull_of left fault a) (pull_of left_end fault_end b) (Err answer)
+      pub stopped : (bytes : List ℕ) (stop : Stop) (answer : ServeFault) → answer ≡ fault_at stop held.taken → Takes here at_end bytes → held_end.taken ≤ 67108864 → Stops (IsPart nodes streams) IsFrameUnderWay here at_end bytes stop → PullsSo nodes streams (pull_of left fault a) (pull_of left_end fault_end b) (Err answer)
       stopped bytes stop answer is taken most why = subst (λ (x : ServeFault). PullsSo nodes streams (pull_of left fault a) (pull_of left_end fault_end b) (Err x)) (sym is) (stopped_at bytes stop taken most why)
 
       refused_so : (c : NodeMeaning) (f : Format) (m : Msg) (answer : ServeFault) → IsFramed f m → IsWanted nodes streams m → Takes here at_end (spelling f m) → TakesOne b c m (Err answer) → PullsSo nodes streams (pull_of left fault a) (pull_of left_end fault_end c) (Err answer)

@@ -11,7 +11,7 @@ use Rattle.pr_serve.specs.declared.serve_fault.ServeFault.TheVariants as faults
 use Rattle.pr_serve.specs.declared.stop.Stop.{Stop}
 use Rattle.pr_serve.specs.declared.stop.Stop.TheVariants as stops
 use Rattle.pr_serve.specs.Answers.{HasAnswered, HasBroken}
-use Rattle.pr_serve.specs.Asking.{IsAskText}
+use Rattle.pr_serve.specs.Asking.{IsAskText, IsAskUnderWay}
 use Rattle.pr_serve.specs.Asks.{IsAsk, are_asks, ask_text, asks_text}
 use Rattle.pr_serve.specs.Faults.{fault_at}
 use Rattle.pr_serve.specs.Inputs.{Held, Input, IsOver, NoneBegins, NoneStands, Stops, Takes, input}
@@ -132,18 +132,18 @@ module _ (left left_now : Option (List ℕ)) (fault fault_now : ℕ) (held : Hel
       just : (bytes : List ℕ) → held_end.bytes ≡ [] → bytes ≡ bytes ++ held_end.bytes
       just bytes none = sym (append-nil bytes) ∙ ap (λ (t : List ℕ). bytes ++ t) (sym none)
 
-      stopped_at : (bytes : List ℕ) (stop : Stop) → Takes here at_end bytes → held_end.taken ≤ 67108864 → Stops IsAskText here at_end bytes stop → ServesSo before (server_of left_end fault_end v b) (Err (fault_at stop held.taken))
+      stopped_at : (bytes : List ℕ) (stop : Stop) → Takes here at_end bytes → held_end.taken ≤ 67108864 → Stops IsAskText IsAskUnderWay here at_end bytes stop → ServesSo before (server_of left_end fault_end v b) (Err (fault_at stop held.taken))
       stopped_at bytes stops.Bad taken most (some, inl none) =
           (sofar.asks, bytes ++ held_end.bytes, served bytes taken, sofar.taken.count ∙ omega arith, omega (arith, some, most, taken.count), inl (begins_with bytes none))
       stopped_at bytes stops.Bad taken most (some, inr over) =
           (sofar.asks, bytes ++ held_end.bytes, served bytes taken, sofar.taken.count ∙ omega arith, omega (arith, some, most, taken.count), inr (subst (λ (t : List ℕ). NoneStands IsAskText t) (just bytes over.1.held) over.0, over.1.left))
       stopped_at bytes stops.Failed taken most (none, failed) =
           (risen_then fault fault_now fault_end sofar.taken.rises failed.rises, (sofar.asks, bytes ++ held_end.bytes, served bytes taken, subst (λ (t : List ℕ). NoneStands IsAskText t) (just bytes failed.held) none))
-      stopped_at bytes stops.TooLarge taken most (none, full) =
-          (sofar.asks, bytes, held_end.bytes, served bytes taken, omega (arith, full.taken, taken.count, sofar.taken.count), full.held, none)
+      stopped_at bytes stops.TooLarge taken most (under, none, full) =
+          (sofar.asks, bytes, held_end.bytes, served bytes taken, omega (arith, full.taken, taken.count, sofar.taken.count), full.held, under, none)
       stopped_at bytes stops.NoMemory taken most why = inr (sofar.asks, bytes ++ held_end.bytes, served bytes taken)
 
-      pub stopped : (bytes : List ℕ) (stop : Stop) (answer : ServeFault) → answer ≡ fault_at stop held.taken → Takes here at_end bytes → held_end.taken ≤ 67108864 → Stops IsAskText here at_end bytes stop → ServesSo before (server_of left_end fault_end v b) (Err answer)
+      pub stopped : (bytes : List ℕ) (stop : Stop) (answer : ServeFault) → answer ≡ fault_at stop held.taken → Takes here at_end bytes → held_end.taken ≤ 67108864 → Stops IsAskText IsAskUnderWay here at_end bytes stop → ServesSo before (server_of left_end fault_end v b) (Err answer)
       stopped bytes stop answer is taken most why = subst (λ (x : ServeFault). ServesSo before (server_of left_end fault_end v b) (Err x)) (sym is) (stopped_at bytes stop taken most why)
 
       breaks : (c : NodeMeaning) (w : Sink) (q : Ask) (answer : ServeFault) → IsAsk q → Takes here at_end (ask_text q) → HasBroken b c q.stream (begun b.journal q) v w answer → BreaksBy before (server_of left_end fault_end w c) answer

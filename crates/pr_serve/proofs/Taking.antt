@@ -39,14 +39,14 @@ failed_then a b c le f = record { rises = risen_then a.faults b.faults c.faults 
 
 -- ---- stops
 
-module _ (IsText : List ℕ → Type 0) where
-  pub stopped_next : (a b c : Input) (bytes all : List ℕ) (stop : Stop) → Takes a b bytes → NoneStands IsText all → IsNextByte b c (Err stop) → Takes a c bytes × Stops IsText a c all stop
-  stopped_next a b c bytes all stops.Bad taken none next = absurd next
-  stopped_next a b c bytes all stops.NoMemory taken none next = absurd next
-  stopped_next a b c bytes all stops.Failed taken none next = (takes_no_more a b c bytes taken next.0, (none, failed_then a b c taken.rises next.1))
-  stopped_next a b c bytes all stops.TooLarge taken none next = (takes_no_more a b c bytes taken next.0, (none, next.1))
+module _ (IsText IsUnderWay : List ℕ → Type 0) where
+  pub stopped_next : (a b c : Input) (bytes all : List ℕ) (stop : Stop) → Takes a b bytes → IsUnderWay all → NoneStands IsText all → IsNextByte b c (Err stop) → Takes a c bytes × Stops IsText IsUnderWay a c all stop
+  stopped_next a b c bytes all stops.Bad taken under none next = absurd next
+  stopped_next a b c bytes all stops.NoMemory taken under none next = absurd next
+  stopped_next a b c bytes all stops.Failed taken under none next = (takes_no_more a b c bytes taken next.0, (none, failed_then a b c taken.rises next.1))
+  stopped_next a b c bytes all stops.TooLarge taken under none next = (takes_no_more a b c bytes taken next.0, (under, none, next.1))
 
-  pub stopped_before : (a b c : Input) (all : List ℕ) (stop : Stop) → a.faults ≤ b.faults → Stops IsText b c all stop → Stops IsText a c all stop
+  pub stopped_before : (a b c : Input) (all : List ℕ) (stop : Stop) → a.faults ≤ b.faults → Stops IsText IsUnderWay b c all stop → Stops IsText IsUnderWay a c all stop
   stopped_before a b c all stops.Bad rises s = s
   stopped_before a b c all stops.NoMemory rises s = tt
   stopped_before a b c all stops.Failed rises s = (s.0, failed_then a b c rises s.1)

@@ -12,17 +12,22 @@ use Rattle.pr_serve.specs.Inputs.{Input, IsOver, Stops, Takes}
 abbrev pub IsAskText : List ℕ → Type 0
 IsAskText text = (q : Ask) × IsAsk q × (text ≡ ask_text q)
 
+-- what is in of an ask that is not in: by its counts and lengths more bytes belong to it
+abbrev pub IsAskUnderWay : List ℕ → Type 0
+IsAskUnderWay [] = Unit {0}
+IsAskUnderWay (b ∷ bytes) = (b ≡ 81) × (behind (b ∷ bytes) (Front 5) ≡ None)
+
 -- an ask was found, or the input's end
 abbrev pub IsNextAsk : Input → Input → Result (Option Ask) Stop → Type 0
 IsNextAsk a b (Ok (Some q)) = IsAsk q × Takes a b (ask_text q)
 IsNextAsk a b (Ok None) = Takes a b [] × IsOver b
-IsNextAsk a b (Err stop) = (bytes : List ℕ) × Takes a b bytes × Stops IsAskText a b bytes stop
+IsNextAsk a b (Err stop) = (bytes : List ℕ) × Takes a b bytes × Stops IsAskText IsAskUnderWay a b bytes stop
 
 -- what comes of taking the bytes of an ask whose mark was taken: by its counts and lengths, it ends with them
 abbrev pub IsAskBytes : Input → Input → Result (List ℕ) Stop → Type 0
 IsAskBytes a b (Ok all) =
     (bytes : List ℕ) × (all ≡ 81 ∷ bytes) × Takes a b bytes × ((rest : List ℕ) → behind (all ++ rest) (Front 5) ≡ Some rest)
-IsAskBytes a b (Err stop) = (bytes : List ℕ) × Takes a b bytes × Stops IsAskText a b (81 ∷ bytes) stop
+IsAskBytes a b (Err stop) = (bytes : List ℕ) × Takes a b bytes × Stops IsAskText IsAskUnderWay a b (81 ∷ bytes) stop
 
 -- what comes of reading such bytes
 abbrev pub IsReadAsk : List ℕ → Result (Option Ask) Stop → Type 0

@@ -3,6 +3,7 @@ use Rattle.std.specs.Prelude.{◌≡◌, ◌⊎◌, ◌<◌, ◌^◌, ℕ, List,
 use Rattle.pr_inval.specs.declared.msg.Msg.{Msg}
 use Rattle.pr_story.specs.Counts.{HasKind}
 use Rattle.pr_wire.specs.declared.format.Format.{Format}
+use Rattle.pr_wire.specs.Frames.{IsPartial}
 use Rattle.pr_wire.specs.Messages.{HasSpelling}
 use Rattle.pr_wire.specs.Spelling.{content, spelling}
 use Rattle.pr_serve.specs.Inputs.{Input, IsOver, Stops, Takes}
@@ -18,6 +19,10 @@ pub record IsFramed (f : Format) (m : Msg) : Type 0 where
 abbrev pub IsFrame : List ℕ → Type 0
 IsFrame text = (f : Format) × (m : Msg) × IsFramed f m × (text ≡ spelling f m)
 
+-- what is in of a frame that is not in, of any length
+abbrev pub IsFrameUnderWay : List ℕ → Type 0
+IsFrameUnderWay bytes = IsPartial 18446744073709551615 bytes
+
 -- so many nodes are declared, and the message is of one of these streams
 pub record IsWanted (nodes : ℕ) (streams : List ℕ) (m : Msg) : Type 0 where
   pub names : HasKind nodes m.kind
@@ -31,7 +36,7 @@ IsPart nodes streams text =
 -- what comes of reading a frame whose first byte was taken
 abbrev pub IsRestOfFrame : ℕ → Input → Input → Result Msg Stop → Type 0
 IsRestOfFrame first a b (Ok m) = (f : Format) × (bytes : List ℕ) × IsFramed f m × (first ∷ bytes ≡ spelling f m) × Takes a b bytes
-IsRestOfFrame first a b (Err stop) = (bytes : List ℕ) × Takes a b bytes × Stops IsFrame a b (first ∷ bytes) stop
+IsRestOfFrame first a b (Err stop) = (bytes : List ℕ) × Takes a b bytes × Stops IsFrame IsFrameUnderWay a b (first ∷ bytes) stop
 
 -- what was found at the place
 abbrev pub HasFound : ℕ → List ℕ → Input → Input → Part → Type 0
@@ -43,4 +48,4 @@ HasFound nodes streams a b (parts.Message m) =
 abbrev pub IsFoundPart : ℕ → List ℕ → Input → Input → Result Part Stop → Type 0
 IsFoundPart nodes streams a b (Ok part) = HasFound nodes streams a b part
 IsFoundPart nodes streams a b (Err stop) =
-    (bytes : List ℕ) × Takes a b bytes × Stops (IsPart nodes streams) a b bytes stop
+    (bytes : List ℕ) × Takes a b bytes × Stops (IsPart nodes streams) IsFrameUnderWay a b bytes stop

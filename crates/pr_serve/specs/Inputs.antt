@@ -70,9 +70,10 @@ module _ (IsText : List ℕ → Type 0) where
   abbrev pub NoneStands : List ℕ → Type 0
   NoneStands bytes = (text x : List ℕ) → IsText text → text ++ x ≡ bytes → ⊥
 
-  -- why no text was taken, where these bytes were
+-- why none of these texts was taken, where these bytes were; a text is under way as far as it is in
+module _ (IsText IsUnderWay : List ℕ → Type 0) where
   abbrev pub Stops : Input → Input → List ℕ → Stop → Type 0
-  Stops a b bytes stops.Bad = (1 ≤ length bytes) × (NoneBegins bytes ⊎ (NoneStands bytes × IsOver b))
-  Stops a b bytes stops.Failed = NoneStands bytes × HasFailed a b
-  Stops a b bytes stops.TooLarge = NoneStands bytes × IsFull b
+  Stops a b bytes stops.Bad = (1 ≤ length bytes) × (NoneBegins IsText bytes ⊎ (NoneStands IsText bytes × IsOver b))
+  Stops a b bytes stops.Failed = NoneStands IsText bytes × HasFailed a b
+  Stops a b bytes stops.TooLarge = IsUnderWay bytes × NoneStands IsText bytes × IsFull b
   Stops a b bytes stops.NoMemory = Unit {0}

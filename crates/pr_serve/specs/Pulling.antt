@@ -12,7 +12,7 @@ use Rattle.pr_story.specs.declared.event.Event.TheVariants.{Accepted, Gapped}
 use Rattle.pr_story.specs.Lawful.{IsOwnLawful, last_time}
 use Rattle.pr_wire.specs.declared.format.Format.{Format}
 use Rattle.pr_wire.specs.Spelling.{spelling}
-use Rattle.pr_serve.specs.Frames.{IsFramed, IsPart, IsWanted}
+use Rattle.pr_serve.specs.Frames.{IsFrameUnderWay, IsFramed, IsPart, IsWanted}
 use Rattle.pr_serve.specs.Inputs.{NoneBegins, NoneStands}
 use Rattle.pr_serve.specs.declared.serve_fault.ServeFault.{ServeFault}
 use Rattle.pr_serve.specs.declared.serve_fault.ServeFault.TheVariants as faults
@@ -113,11 +113,12 @@ module _ (nodes : ℕ) (streams : List ℕ) (a b : Pull) where
       HasRisen a.faults b.faults
       × ((parts : List Pulled) × (rest : List ℕ) × HasPulled nodes streams a b parts rest × NoneStands (IsPart nodes streams) rest)
 
-  -- one byte more was read than may be taken, and what may stand there was not whole before it
+  -- one byte more was read than may be taken, and a frame was under way before it, or nothing
   abbrev pub IsTooLarge : Type 0
   IsTooLarge =
       (parts : List Pulled) × (rest : List ℕ) × (more : List ℕ) × HasPulled nodes streams a b parts (rest ++ more)
-      × (length (pulled_text parts) + length rest ≡ 67108864) × (1 ≤ length more) × NoneStands (IsPart nodes streams) rest
+      × (length (pulled_text parts) + length rest ≡ 67108864) × (1 ≤ length more)
+      × IsFrameUnderWay rest × NoneStands (IsPart nodes streams) rest
 
   -- the next message or the node's last entry has the greatest time
   abbrev pub IsWorn : Type 0

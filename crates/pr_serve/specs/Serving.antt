@@ -7,7 +7,7 @@ use Rattle.pr_serve.specs.declared.ask.Ask.{Ask}
 use Rattle.pr_serve.specs.declared.serve_fault.ServeFault.{ServeFault}
 use Rattle.pr_serve.specs.declared.serve_fault.ServeFault.TheVariants as faults
 use Rattle.pr_serve.specs.Answers.{HasBroken}
-use Rattle.pr_serve.specs.Asking.{IsAskText}
+use Rattle.pr_serve.specs.Asking.{IsAskText, IsAskUnderWay}
 use Rattle.pr_serve.specs.Asks.{IsAsk, ask_text, are_asks, asks_text}
 use Rattle.pr_serve.specs.Inputs.{NoneBegins, NoneStands}
 use Rattle.pr_serve.specs.Output.{AreOutputs, begun}
@@ -46,11 +46,12 @@ module _ (a b : Server) where
   IsReadFault =
       HasRisen a.faults b.faults × ((qs : List Ask) × (rest : List ℕ) × HasServed a b qs rest × NoneStands IsAskText rest)
 
-  -- one byte more was read than may be taken, and no ask was whole before it
+  -- one byte more was read than may be taken, and an ask was under way before it, or nothing
   abbrev pub IsTooLarge : Type 0
   IsTooLarge =
       (qs : List Ask) × (rest : List ℕ) × (more : List ℕ) × HasServed a b qs (rest ++ more)
-      × (length (asks_text qs) + length rest ≡ 67108864) × (1 ≤ length more) × NoneStands IsAskText rest
+      × (length (asks_text qs) + length rest ≡ 67108864) × (1 ≤ length more)
+      × IsAskUnderWay rest × NoneStands IsAskText rest
 
   -- after some asks that were answered, the answer to one more was broken off
   abbrev pub BreaksBy : ServeFault → Type 0

@@ -2,7 +2,7 @@ use Rattle.std.proofs.Common.{◌≢◌, ◌≡◌, [], ◌∷◌, ◌++◌, Lis
 use Rattle.pr_serve.specs.declared.coming.Coming.TheVariants.{Nothing}
 use Rattle.pr_serve.specs.Inputs.{input}
 use Rattle.pr_serve.proofs.AskExtent.{Extends, extends_all, extends_more, less_than_ask}
-use Rattle.pr_serve.proofs.AskParts.{bytes_stop, more_comes, so_far, stands_as}
+use Rattle.pr_serve.proofs.AskParts.{bytes_stop, more_comes, so_far, stands_as, under_way}
 use Rattle.pr_serve.proofs.FrameParts.{byte_is, is_stop}
 use Rattle.pr_serve.proofs.Taking.{takes_no_more, takes_then}
 use Rattle.pr_serve.proofs.asking.ask_bytes.Goals as goal
@@ -26,6 +26,7 @@ returns-in_err-next-clause-so g c =
     let stop = c.in_err-next.field-0.0 in
     bytes_stop (input (left c.args.source.now) (faults c.args.source.now) c.args.window.now) (input (left l.source) (faults l.source) l.window) (input (left n.source) (faults n.source) n.self)
     got.0 stop c.from_residual-in_err-next.result (is_stop c.from_residual-in_err-next.result _ stop c.from_residual-in_err-next.ensures (λ e p. p)) got.1
+    (under_way c.push.new.self got.0 c.after-coming.result (sym all) extends (more_comes c.is_nothing.result c.after-coming.result c.is_nothing.ensures.1 c.if-is_nothing.false))
     (stands_as c.push.new.self (81 ∷ got.0) (sym all) (less_than_ask c.push.new.self c.after-coming.result extends (more_comes c.is_nothing.result c.after-coming.result c.is_nothing.ensures.1 c.if-is_nothing.false))) c.in_err-next.ensures.so
 
 pub returns-in-None-clause-so : goal.returns-in-None-clause-so
