@@ -100,9 +100,9 @@ module _ (nodes : ℕ) (streams : List ℕ) (left left_now : Option (List ℕ)) 
 
       stopped_at : (bytes : List ℕ) (stop : Stop) → Takes here at_end bytes → held_end.taken ≤ 67108864 → Stops (IsPart nodes streams) IsFrameUnderWay here at_end bytes stop → PullsSo nodes streams (pull_of left fault a) (pull_of left_end fault_end b) (Err (fault_at stop held.taken))
       stopped_at bytes stops.Bad taken most (some, inl none) =
-          (sofar.parts, bytes ++ held_end.bytes, pulled bytes b taken refl refl refl, sofar.taken.count ∙ omega arith, omega (arith, some, most, taken.count), inl (begins_with bytes none))
+          (sofar.parts, bytes ++ held_end.bytes, pulled bytes b taken refl refl refl, sofar.taken.count ∙ omega arith, omega (arith, some, most, taken.count), omega (arith, some, length-append bytes held_end.bytes), inl (begins_with bytes none))
       stopped_at bytes stops.Bad taken most (some, inr over) =
-          (sofar.parts, bytes ++ held_end.bytes, pulled bytes b taken refl refl refl, sofar.taken.count ∙ omega arith, omega (arith, some, most, taken.count), inr (subst (λ (t : List ℕ). NoneStands (IsPart nodes streams) t) (just bytes over.1.held) over.0, over.1.left))
+          (sofar.parts, bytes ++ held_end.bytes, pulled bytes b taken refl refl refl, sofar.taken.count ∙ omega arith, omega (arith, some, most, taken.count), omega (arith, some, length-append bytes held_end.bytes), inr (subst (λ (t : List ℕ). NoneStands (IsPart nodes streams) t) (just bytes over.1.held) over.0, over.1.left))
       stopped_at bytes stops.Failed taken most (none, failed) =
           (risen_then fault fault_now fault_end sofar.taken.rises failed.rises, (sofar.parts, bytes ++ held_end.bytes, pulled bytes b taken refl refl refl, subst (λ (t : List ℕ). NoneStands (IsPart nodes streams) t) (just bytes failed.held) none))
       stopped_at bytes stops.TooLarge taken most (under, none, full) =

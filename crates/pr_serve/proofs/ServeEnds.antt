@@ -134,9 +134,9 @@ module _ (left left_now : Option (List ℕ)) (fault fault_now : ℕ) (held : Hel
 
       stopped_at : (bytes : List ℕ) (stop : Stop) → Takes here at_end bytes → held_end.taken ≤ 67108864 → Stops IsAskText IsAskUnderWay here at_end bytes stop → ServesSo before (server_of left_end fault_end v b) (Err (fault_at stop held.taken))
       stopped_at bytes stops.Bad taken most (some, inl none) =
-          (sofar.asks, bytes ++ held_end.bytes, served bytes taken, sofar.taken.count ∙ omega arith, omega (arith, some, most, taken.count), inl (begins_with bytes none))
+          (sofar.asks, bytes ++ held_end.bytes, served bytes taken, sofar.taken.count ∙ omega arith, omega (arith, some, most, taken.count), omega (arith, some, length-append bytes held_end.bytes), inl (begins_with bytes none))
       stopped_at bytes stops.Bad taken most (some, inr over) =
-          (sofar.asks, bytes ++ held_end.bytes, served bytes taken, sofar.taken.count ∙ omega arith, omega (arith, some, most, taken.count), inr (subst (λ (t : List ℕ). NoneStands IsAskText t) (just bytes over.1.held) over.0, over.1.left))
+          (sofar.asks, bytes ++ held_end.bytes, served bytes taken, sofar.taken.count ∙ omega arith, omega (arith, some, most, taken.count), omega (arith, some, length-append bytes held_end.bytes), inr (subst (λ (t : List ℕ). NoneStands IsAskText t) (just bytes over.1.held) over.0, over.1.left))
       stopped_at bytes stops.Failed taken most (none, failed) =
           (risen_then fault fault_now fault_end sofar.taken.rises failed.rises, (sofar.asks, bytes ++ held_end.bytes, served bytes taken, subst (λ (t : List ℕ). NoneStands IsAskText t) (just bytes failed.held) none))
       stopped_at bytes stops.TooLarge taken most (under, none, full) =

@@ -104,7 +104,7 @@ module _ (nodes : ℕ) (streams : List ℕ) (a b : Pull) where
   abbrev pub IsBadAt : ℕ → Type 0
   IsBadAt at =
       (parts : List Pulled) × (rest : List ℕ) × HasPulled nodes streams a b parts rest
-      × (at ≡ length (pulled_text parts)) × (at < 67108864)
+      × (at ≡ length (pulled_text parts)) × (at < 67108864) × (1 ≤ length rest)
       × (NoneBegins (IsPart nodes streams) rest ⊎ (NoneStands (IsPart nodes streams) rest × IsAtEnd b.left))
 
   -- the source failed, within what may stand there or before it

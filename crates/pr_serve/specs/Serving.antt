@@ -39,6 +39,7 @@ module _ (a b : Server) where
   abbrev pub IsBadAt : ℕ → Type 0
   IsBadAt at =
       (qs : List Ask) × (rest : List ℕ) × HasServed a b qs rest × (at ≡ length (asks_text qs)) × (at < 67108864)
+      × (1 ≤ length rest)
       × (NoneBegins IsAskText rest ⊎ (NoneStands IsAskText rest × IsAtEnd b.left))
 
   -- the source failed within an ask, or before it

@@ -2,7 +2,7 @@
 ghost use Rattle.pr_serve.specs.Asks.{IsAsk, ask_at, ask_text, is_asking};
 ghost use Rattle.pr_wire.specs.Reading.{Gives};
 ghost use Rattle.pr_wire.specs.Spelling.{eight, four};
-ghost use Rattle.std.specs.Prelude.{◌≡◌, ◌++◌, ◌∷◌, [], List, OnErr, OnOk, length, take};
+ghost use Rattle.std.specs.Prelude.{◌≡◌, ◌≤◌, ◌++◌, List, IfOk, OnErr, OnOk, length, take, true};
 
 use pr_inval::Bytes;
 use pr_sets::NameSet;
@@ -32,10 +32,14 @@ pub struct Ask {
 impl Ask {
     /// Adds its spelling (docs/WIRE.md), in time linear in the intervals of the set. A refusal leaves the bytes.
     pub fn write(&self, out: &mut Bytes) -> Result<(), NoMemory>
-        requires { IsAsk self.now }
+        requires some { 1 ≤ length self.now.sub }
+        requires from_one { 1 ≤ self.now.turns }
+        requires most { self.now.turns ≤ 1000000 }
         ensures ok { OnOk result (out.new ≡ out.old ++ ask_text self.now) }
         ensures err { OnErr result (out.new ≡ out.old) }
+        ensures ask { IsAsk self.now }
     {
+        self.known();
         let len = out.len();
         match self.append_to(out) {
             Ok(()) => Ok(()),
@@ -44,6 +48,18 @@ impl Ask {
                 Err(NoMemory)
             }
         }
+    }
+
+    // Its fields are in the ranges of their types.
+    fn known(&self)
+        requires some { 1 ≤ length self.now.sub }
+        requires from_one { 1 ≤ self.now.turns }
+        requires most { self.now.turns ≤ 1000000 }
+        ensures { IsAsk self.now }
+    {
+        let _stream = self.stream;
+        let _clock = self.start.at(0);
+        let _count = self.sub.parts().len();
     }
 
     // After a refusal a beginning of the spelling was added.
@@ -63,7 +79,8 @@ impl Ask {
     /// The ask at the front of what the cursor has left, which is taken off, in time linear in the intervals of its set.
     #[tactic(auto, unfolding(crate::specs::Asks::ask_at))]
     pub fn read(alloc: Global, cursor: &mut Cursor) -> Result<Ask, Fault>
-        ensures { Gives (λ x. (x, cursor.new.rest.now)) result (ask_at cursor.old.rest.now) }
+        ensures read { Gives (λ x. (x, cursor.new.rest.now)) result (ask_at cursor.old.rest.now) }
+        ensures ask { IfOk result IsAsk }
     {
         if cursor.byte()? != MARK {
             return Err(Fault::Bad);
@@ -76,19 +93,22 @@ impl Ask {
         if !is_asking(&sub, turns) {
             return Err(Fault::Bad);
         }
-        Ok(Ask {
+        let ask = Ask {
             stream,
             start,
             sub,
             bodies,
             turns,
-        })
+        };
+        ask.known();
+        Ok(ask)
     }
 }
 
 // Whether so many turns for these names can be asked for.
 fn is_asking(sub: &NameSet, turns: u64) -> bool
-    ensures { result ≡ is_asking (length sub.now) turns }
+    ensures test { result ≡ is_asking (length sub.now) turns }
+    ensures ranges { result ≡ true → (1 ≤ length sub.now) × (1 ≤ turns) × (turns ≤ 1000000) }
 {
     1 <= sub.count() && 1 <= turns && turns <= MOST_TURNS
 }
