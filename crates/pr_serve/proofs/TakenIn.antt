@@ -1,7 +1,7 @@
 -- Messages that a node takes in, one after the other.
-use Rattle.std.proofs.Common.{◌≡◌, ◌⊎◌, ◌<◌, ◌≤◌, ◌+◌, ◌-◌, ◌^◌, max, ℕ, List, [], ◌∷◌, ◌++◌, length, Option, Some, None, Result, Ok, Err, false, refl, sym, ap, subst, ◌∙◌, append_assoc, arith, inl, inr}
+use Rattle.std.proofs.Common.{◌≡◌, ◌⊎◌, ◌<◌, ◌≤◌, ◌+◌, ◌-◌, ◌^◌, max, ℕ, List, [], ◌∷◌, ◌++◌, length, reverse, Option, Some, None, Result, Ok, Err, false, refl, sym, ap, subst, ◌∙◌, append_assoc, arith, inl, inr}
 use Rattle.std.specs.Io.KnownBytes.{Consumes, IsAtEnd, prepend_known}
-use Rattle.std.proofs.lemmas.List.{append-nil, length-append}
+use Rattle.std.proofs.lemmas.List.{append-nil, length-append, reverse-append}
 use Rattle.pr_names.specs.Span.{Span}
 use Rattle.pr_inval.specs.declared.msg.Msg.{Msg}
 use Rattle.pr_inval.specs.declared.node_fault.NodeFault.{NodeFault}
@@ -85,6 +85,10 @@ wanted_ended nodes streams (EndByte ∷ parts) all = wanted_ended nodes streams 
 after_more : (es j : List Entry) (e : Entry) → after (es ++ e ∷ []) j ≡ e ∷ after es j
 after_more [] j e = refl
 after_more (d ∷ es) j e = after_more es (d ∷ j) e
+
+pub after_reversed : (es j : List Entry) → reverse (after es j) ≡ reverse j ++ es
+after_reversed [] j = sym (append-nil (reverse j))
+after_reversed (e ∷ es) j = after_reversed es (e ∷ j) ∙ ap (λ (t : List Entry). t ++ es) (reverse-append (e ∷ []) j) ∙ append_assoc (reverse j) (e ∷ []) es
 
 taken_more : (sets : List (List Span)) (n : ℕ) (j : List Entry) (ms : List Msg) (es : List Entry) (m : Msg) (e : Entry) → AreTakenBy sets n j ms es → IsTakenBy sets n (after es j) m e → AreTakenBy sets n j (ms ++ m ∷ []) (es ++ e ∷ [])
 taken_more sets n j [] [] m e all one = (one, tt)

@@ -1,8 +1,10 @@
 // Laws of asks, and of messages that are pulled. Each is the contract of a function that does nothing.
 ghost use Rattle.pr_serve.specs.declared.ask.Ask.{Ask};
 ghost use Rattle.pr_serve.specs.Asks.{IsAsk, ask_at, ask_text};
+ghost use Rattle.pr_serve.specs.Pulling.{after};
+ghost use Rattle.pr_story.specs.declared.entry.Entry.{Entry};
 ghost use Rattle.pr_serve.specs.Laws.{HonestStayClosed, SentStayValid};
-ghost use Rattle.std.specs.Prelude.{◌≡◌, ◌<◌, ◌++◌, List, ℕ, Some, slice_index};
+ghost use Rattle.std.specs.Prelude.{◌≡◌, ◌<◌, ◌++◌, List, ℕ, Some, reverse, slice_index};
 
 /// What is read of bytes is an ask that they begin with the spelling of, and an ask that was spelled is read again,
 /// whatever follows it.
@@ -14,6 +16,11 @@ pub fn asks_have_one_spelling()
 /// No ask begins another one: whatever bytes follow two asks, they are the same where the bytes are.
 pub fn no_ask_begins_another()
     ensures { (p q : Ask) (x y : List ℕ) → IsAsk p → IsAsk q → ask_text p ++ x ≡ ask_text q ++ y → (p ≡ q) × (x ≡ y) }
+{}
+
+/// Entries that a node makes stand at the end of its journal's list, in their order.
+pub fn new_entries_come_last()
+    ensures { (es j : List Entry) → reverse (after es j) ≡ reverse j ++ es }
 {}
 
 /// Where a node takes in messages that were sent to it, the history goes on to be valid with the entries, and each node's

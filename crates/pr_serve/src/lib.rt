@@ -19,8 +19,8 @@ mod writing;
 
 pub use ask::{Ask, MOST_TURNS};
 pub use law::{
-    asks_have_one_spelling, honest_messages_stay_closed, no_ask_begins_another,
-    pulled_messages_keep_valid,
+    asks_have_one_spelling, honest_messages_stay_closed, new_entries_come_last,
+    no_ask_begins_another, pulled_messages_keep_valid,
 };
 pub use pulling::pull;
 pub use serve_fault::ServeFault;
