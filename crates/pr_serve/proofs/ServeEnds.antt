@@ -12,7 +12,7 @@ use Rattle.pr_serve.specs.declared.stop.Stop.{Stop}
 use Rattle.pr_serve.specs.declared.stop.Stop.TheVariants as stops
 use Rattle.pr_serve.specs.Answers.{HasAnswered, HasBroken}
 use Rattle.pr_serve.specs.Asking.{IsAskText, IsAskUnderWay}
-use Rattle.pr_serve.specs.Asks.{IsAsk, are_asks, ask_text, asks_text}
+use Rattle.pr_serve.specs.Asks.{IsAsk, AreAsks, ask_text, asks_text}
 use Rattle.pr_serve.specs.Faults.{fault_at}
 use Rattle.pr_serve.specs.Inputs.{Held, Input, IsOver, NoneBegins, NoneStands, Stops, Takes, input}
 use Rattle.pr_serve.specs.Output.{AreOutputs, IsOutput, begun}
@@ -28,7 +28,7 @@ text_more : (qs : List Ask) (q : Ask) → asks_text (qs ++ q ∷ []) ≡ asks_te
 text_more [] q = append-nil (ask_text q)
 text_more (p ∷ qs) q = ap (λ (t : List ℕ). ask_text p ++ t) (text_more qs q) ∙ sym (append_assoc (ask_text p) (asks_text qs) (ask_text q))
 
-asks_more : (qs : List Ask) (q : Ask) → are_asks qs → IsAsk q → are_asks (qs ++ q ∷ [])
+asks_more : (qs : List Ask) (q : Ask) → AreAsks qs → IsAsk q → AreAsks (qs ++ q ∷ [])
 asks_more [] q all is = (is, tt)
 asks_more (p ∷ qs) q all is = (all.0, asks_more qs q all.1 is)
 
@@ -50,7 +50,7 @@ ask_has_bytes q = omega arith
 -- so much was served until now
 pub record Sofar (x y : Input) (a b : NodeMeaning) (u v : Sink) (count : ℕ) : Type 0 where
   pub asks : List Ask
-  pub all : are_asks asks
+  pub all : AreAsks asks
   pub taken : Takes x y (asks_text asks)
   pub text : List ℕ
   pub outputs : AreOutputs a.sets a.id a.journal asks text b.journal

@@ -29,9 +29,9 @@ abbrev pub asks_text : List Ask → List ℕ
 asks_text [] = []
 asks_text (q ∷ qs) = ask_text q ++ asks_text qs
 
-abbrev pub are_asks : List Ask → Type 0
-are_asks [] = Unit {0}
-are_asks (q ∷ qs) = IsAsk q × are_asks qs
+abbrev pub AreAsks : List Ask → Type 0
+AreAsks [] = Unit {0}
+AreAsks (q ∷ qs) = IsAsk q × AreAsks qs
 
 -- ---- reading
 

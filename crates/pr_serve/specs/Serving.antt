@@ -8,7 +8,7 @@ use Rattle.pr_serve.specs.declared.serve_fault.ServeFault.{ServeFault}
 use Rattle.pr_serve.specs.declared.serve_fault.ServeFault.TheVariants as faults
 use Rattle.pr_serve.specs.Answers.{HasBroken}
 use Rattle.pr_serve.specs.Asking.{IsAskText, IsAskUnderWay}
-use Rattle.pr_serve.specs.Asks.{IsAsk, ask_text, are_asks, asks_text}
+use Rattle.pr_serve.specs.Asks.{IsAsk, ask_text, AreAsks, asks_text}
 use Rattle.pr_serve.specs.Inputs.{NoneBegins, NoneStands}
 use Rattle.pr_serve.specs.Output.{AreOutputs, begun}
 use Rattle.pr_serve.specs.Sinks.{Sink, Wrote}
@@ -22,7 +22,7 @@ pub record Server : Type 0 where
 
 -- from a to b these asks were read, and then these bytes; the text grew by the outputs of the asks
 pub record HasServed (a b : Server) (qs : List Ask) (rest : List ℕ) : Type 0 where
-  pub asks : are_asks qs
+  pub asks : AreAsks qs
   pub read : Consumes a.left b.left (asks_text qs ++ rest)
   pub text : List ℕ
   pub outputs : AreOutputs a.node.sets a.node.id a.node.journal qs text b.node.journal

@@ -1,13 +1,12 @@
 // What a node takes in of an input.
 ghost use Rattle.pr_node.specs.Stored.{means};
 ghost use Rattle.pr_inval.specs.Messages.{IsMessage};
-ghost use Rattle.pr_serve.specs.Faults.{fault_at};
 ghost use Rattle.pr_serve.specs.Pulling.{PullsSo, TakesOne};
-ghost use Rattle.std.specs.Prelude.{◌≡◌, ◌≤◌};
+ghost use Rattle.std.specs.Prelude.{◌≤◌};
 
 use crate::framing::{Part, next_part};
 use crate::serve_fault::ServeFault;
-use crate::stop::Stop;
+use crate::stop::fault_of;
 use crate::window::Window;
 use pr_inval::{Msg, NodeFault};
 use pr_node::Node;
@@ -55,17 +54,5 @@ fn take_in(node: &mut Node, msg: Msg) -> Result<(), ServeFault>
         Ok(_) => Ok(()),
         Err(NodeFault::Worn { at }) => Err(ServeFault::Worn { at }),
         Err(NodeFault::NoMemory) => Err(ServeFault::NoMemory),
-    }
-}
-
-/// The fault of a stop at what begins at this byte.
-pub fn fault_of(stop: Stop, at: u64) -> ServeFault
-    ensures { result ≡ fault_at stop at }
-{
-    match stop {
-        Stop::Bad => ServeFault::BadBytes { at },
-        Stop::Failed => ServeFault::ReadFault,
-        Stop::TooLarge => ServeFault::TooLarge,
-        Stop::NoMemory => ServeFault::NoMemory,
     }
 }

@@ -6,8 +6,8 @@ ghost use Rattle.std.specs.Prelude.{◌≤◌};
 
 use crate::answering::answer;
 use crate::asking::next_ask;
-use crate::pulling::fault_of;
 use crate::serve_fault::ServeFault;
+use crate::stop::fault_of;
 use crate::window::Window;
 use pr_node::Node;
 use pr_ports::{Sink, Source};
