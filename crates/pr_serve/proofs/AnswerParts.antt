@@ -1,5 +1,5 @@
 -- The entries of an answer, one after the other.
-use Rattle.std.proofs.Common.{◌≡◌, ◌⊎◌, ◌<◌, ◌≤◌, ◌+◌, ◌-◌, max, ℕ, List, [], ◌∷◌, ◌++◌, length, Bool, true, false, Option, Some, None, Result, Ok, Err, refl, sym, ap, subst, ◌∙◌, append_assoc, arith, inl, inr}
+use Rattle.std.proofs.Common.{◌≡◌, ◌≤◌, ◌-◌, ℕ, List, [], ◌∷◌, ◌++◌, true, Option, Some, None, Result, Ok, Err, refl, sym, ap, subst, ◌∙◌, arith}
 use Rattle.std.proofs.lemmas.List.{append-nil}
 use Rattle.pr_names.specs.Span.{Span}
 use Rattle.pr_inval.specs.declared.msg.Msg.{Msg}
@@ -8,7 +8,7 @@ use Rattle.pr_inval.specs.declared.node_fault.NodeFault.TheVariants as node_faul
 use Rattle.pr_inval.specs.declared.step.Step.{Step}
 use Rattle.pr_inval.specs.declared.step.Step.TheVariants as steps
 use Rattle.pr_inval.specs.Messages.{IsMessage}
-use Rattle.pr_inval.specs.Standing.{IsSameSession, SessionMeaning, Standing}
+use Rattle.pr_inval.specs.Standing.{SessionMeaning, Standing}
 use Rattle.pr_node.specs.Calls.{Adds, AddsOfStream, IsCheckpointSent, IsFault, IsStep, IsTimeWorn}
 use Rattle.pr_node.specs.Stored.{NodeMeaning}
 use Rattle.pr_story.specs.declared.entry.Entry.{Entry}
@@ -16,10 +16,8 @@ use Rattle.pr_story.specs.declared.event.Event.{Event}
 use Rattle.pr_story.specs.declared.event.Event.TheVariants.{Sent, Idle, Stale}
 use Rattle.pr_story.specs.Lawful.{IsOwnLawful, last_time}
 use Rattle.pr_story.specs.Sessions.{HasGoneOn, IsAfter}
-use Rattle.pr_wire.specs.declared.format.Format.TheVariants.{Two}
-use Rattle.pr_wire.specs.Spelling.{spelling}
-use Rattle.pr_serve.specs.Answers.{HasRun, IsMade, IsSessionAt, IsStoppedBy, place}
-use Rattle.pr_serve.specs.Output.{Answering, Leads, Makes, Next, Nothing, Run, Snapshot, Turn, frame_of, frames}
+use Rattle.pr_serve.specs.Answers.{IsMade, IsSessionAt, IsStoppedBy, place}
+use Rattle.pr_serve.specs.Output.{Answering, Leads, Makes, Next, Nothing, Snapshot, Turn, frame_of, frames}
 
 first_is : (a b : Entry) (x y : List Entry) → a ∷ x ≡ b ∷ y → a ≡ b
 first_is a b x y e = cc

@@ -1,5 +1,5 @@
 -- Where an ask ends: its counts and lengths tell it.
-use Rattle.std.proofs.Common.{◌≡◌, ◌≢◌, ◌⊎◌, ◌<◌, ◌≤◌, ◌+◌, ◌-◌, ◌*◌, ◌%◌, ◌^◌, ℕ, zero, suc, List, [], ◌∷◌, ◌++◌, length, take, flat_map, Bool, true, false, Option, Some, None, refl, sym, ap, subst, ◌∙◌, append_assoc, arith, inl, inr}
+use Rattle.std.proofs.Common.{◌≡◌, ◌≢◌, ◌<◌, ◌+◌, ◌-◌, ◌*◌, ◌%◌, ◌^◌, ℕ, zero, suc, List, [], ◌∷◌, ◌++◌, length, take, flat_map, Option, Some, None, refl, sym, ap, ◌∙◌, append_assoc, arith}
 use Rattle.std.specs.Int.{w64, from_be_bytes}
 use Rattle.std.proofs.lemmas.List.{append-nil, length-append, take_at}
 use Rattle.pr_names.specs.Span.{Span}
@@ -14,7 +14,7 @@ use Rattle.pr_serve.specs.declared.coming.Coming.{Coming}
 use Rattle.pr_serve.specs.declared.coming.Coming.TheVariants.{Front, Entries, Clocks, Count, Low, LowName, High, HighName, Tail, Nothing}
 use Rattle.pr_serve.specs.Asking.{IsAskText}
 use Rattle.pr_serve.specs.Asks.{IsAsk, ask_at, ask_text, flag_text}
-use Rattle.pr_serve.specs.Extents.{behind, clocks, coming_after, count, front, high, low, spans_left, tail}
+use Rattle.pr_serve.specs.Extents.{behind, clocks, coming_after, front, high, low, spans_left, tail}
 use Rattle.pr_serve.specs.Inputs.{NoneBegins, NoneStands}
 use Rattle.pr_serve.proofs.AskField.{ask_field}
 

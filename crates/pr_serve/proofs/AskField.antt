@@ -1,12 +1,11 @@
 -- Asks as a field: what is read is spelled, and what is spelled is read.
-use Rattle.std.proofs.Common.{◌≡◌, ℕ, ◌+◌, ◌<◌, ◌≤◌, Bool, true, List, [], ◌∷◌, ◌++◌, length, Option, Some, None, Result, Ok, Err, refl, sym, ap, subst, ◌∙◌, append_assoc, arith}
+use Rattle.std.proofs.Common.{◌≡◌, ℕ, ◌<◌, Bool, true, List, [], ◌∷◌, ◌++◌, length, Option, Some, Result, Ok, Err, refl, sym, ap, subst, ◌∙◌, append_assoc, arith}
 use Rattle.std.specs.Prelude.{OnOk, nat_le, ◌==◌, ◌&&◌}
 use Rattle.std.proofs.lemmas.Bool.{and_parts, and_from, eqb-true, leb-true, le-leb}
 use Rattle.pr_names.specs.Span.{Span}
-use Rattle.pr_vectors.specs.Vector.{IsVector}
 use Rattle.pr_wire.specs.declared.format.Format.TheVariants.{Two}
 use Rattle.pr_wire.specs.Reading.{◌>>=◌, byte_at, eight_at, four_at, given, gone_at, target_at, vector_at}
-use Rattle.pr_wire.specs.Spelling.{eight, four, gone_text, list_text, span_text, vector_text}
+use Rattle.pr_wire.specs.Spelling.{eight, four, list_text, span_text, vector_text}
 use Rattle.pr_wire.proofs.Fields.{IsBytes, IsField, Read, bind_some, byte_field, eight_field, four_field, given_some, glue, one_byte, some_is}
 use Rattle.pr_wire.proofs.ListFields.{target_field}
 use Rattle.pr_wire.proofs.StampFields.{gone_field}

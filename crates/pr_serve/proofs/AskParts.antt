@@ -1,12 +1,11 @@
 -- An ask that comes byte by byte.
-use Rattle.std.proofs.Common.{◌≡◌, ◌≢◌, ◌⊎◌, ◌≤◌, ◌+◌, ℕ, List, [], ◌∷◌, ◌++◌, length, Bool, IsTrue, true, false, Option, Some, None, Result, Ok, Err, refl, sym, ap, subst, ◌∙◌, arith, inl, inr}
+use Rattle.std.proofs.Common.{◌≡◌, ◌≢◌, ◌≤◌, ℕ, List, [], ◌∷◌, ◌++◌, length, Bool, IsTrue, true, false, Option, Some, None, Result, Ok, Err, refl, sym, ap, subst, ◌∙◌, arith, inl}
 use Rattle.pr_serve.specs.declared.ask.Ask.{Ask}
 use Rattle.pr_serve.specs.declared.coming.Coming.{Coming}
 use Rattle.pr_serve.specs.declared.coming.Coming.TheVariants.{Front, Nothing}
 use Rattle.pr_serve.specs.declared.stop.Stop.{Stop}
 use Rattle.pr_serve.specs.declared.stop.Stop.TheVariants as stops
 use Rattle.pr_serve.specs.Asking.{IsAskBytes, IsAskText, IsAskUnderWay, IsNextAsk, IsReadAsk}
-use Rattle.pr_serve.specs.Asks.{IsAsk, ask_text}
 use Rattle.pr_serve.specs.Extents.{behind, coming_after}
 use Rattle.pr_serve.specs.Inputs.{Input, IsNextByte, NoneStands, Takes}
 use Rattle.pr_serve.proofs.AskExtent.{Extends, ask_is_all, extends_more, no_ask_begins, nothing_stands, part_of_ask}

@@ -1,5 +1,5 @@
 -- A frame that comes byte by byte.
-use Rattle.std.proofs.Common.{◌≡◌, ◌≢◌, ◌⊎◌, ◌<◌, ◌≤◌, ◌+◌, ◌-◌, ◌^◌, ℕ, List, [], ◌∷◌, ◌++◌, length, take, Option, Some, None, Result, Ok, Err, false, true, nat_eq, refl, sym, ap, subst, ◌∙◌, append_assoc, arith, inl, inr}
+use Rattle.std.proofs.Common.{◌≡◌, ◌≢◌, ◌⊎◌, ◌<◌, ◌≤◌, ◌+◌, ◌^◌, ℕ, List, [], ◌∷◌, ◌++◌, length, take, Option, Result, Ok, Err, false, true, refl, sym, ap, subst, ◌∙◌, arith, inl, inr}
 use Rattle.std.specs.Result.{IsErr, IsErrAnd}
 use Rattle.std.proofs.lemmas.List.{append-nil, length-append, take_at}
 use Rattle.std.proofs.Math.Seq.{take-append-add}
@@ -9,7 +9,6 @@ use Rattle.pr_wire.specs.declared.next.Next.{Next}
 use Rattle.pr_wire.specs.declared.next.Next.TheVariants.{Message, More, Bad}
 use Rattle.pr_wire.specs.Feeding.{Fed, HasAnswered, HasGiven, pushed}
 use Rattle.pr_wire.specs.Frames.{IsBad, IsPartial}
-use Rattle.pr_wire.specs.Messages.{HasSpelling}
 use Rattle.pr_wire.specs.declared.format.Format.TheVariants.{One, Two}
 use Rattle.pr_wire.specs.Spelling.{content, eight, format_byte, spelling}
 use Rattle.pr_wire.proofs.FieldLaws.{bad_stays}
@@ -18,7 +17,7 @@ use Rattle.pr_serve.specs.declared.stop.Stop.{Stop}
 use Rattle.pr_serve.specs.declared.stop.Stop.TheVariants as stops
 use Rattle.pr_serve.specs.declared.framing.Part.{Part}
 use Rattle.pr_serve.specs.Frames.{IsFoundPart, IsFrame, IsFrameUnderWay, IsFramed, IsPart, IsRestOfFrame, IsWanted}
-use Rattle.pr_serve.specs.Inputs.{Input, IsNextByte, IsOver, NoneBegins, NoneStands, Stops, Takes}
+use Rattle.pr_serve.specs.Inputs.{Input, IsNextByte, NoneBegins, NoneStands, Stops, Takes}
 use Rattle.pr_serve.proofs.Taking.{failed_then, stopped_next, takes_none, takes_then}
 
 abbrev most : ℕ

@@ -1,5 +1,5 @@
 -- How an answer goes on, turn after turn, and how it ends.
-use Rattle.std.proofs.Common.{◌≡◌, ◌⊎◌, ◌<◌, ◌≤◌, ◌+◌, ◌-◌, ℕ, List, [], ◌∷◌, ◌++◌, length, Bool, true, false, Option, Some, None, Result, Ok, Err, refl, sym, ap, subst, ◌∙◌, append_assoc, arith, inl, inr}
+use Rattle.std.proofs.Common.{◌≡◌, ◌≤◌, ◌+◌, ◌-◌, ℕ, List, [], ◌∷◌, ◌++◌, length, Bool, true, false, Option, Some, None, Result, Ok, Err, refl, sym, ap, subst, ◌∙◌, append_assoc, arith}
 use Rattle.std.specs.Io.KnownBytes.{Appends}
 use Rattle.std.proofs.lemmas.List.{take-append-le}
 use Rattle.pr_names.specs.Span.{Span}
@@ -16,11 +16,11 @@ use Rattle.pr_wire.specs.Spelling.{spelling}
 use Rattle.pr_serve.specs.declared.ask.Ask.{Ask}
 use Rattle.pr_serve.specs.declared.serve_fault.ServeFault.{ServeFault}
 use Rattle.pr_serve.specs.declared.serve_fault.ServeFault.TheVariants as faults
-use Rattle.pr_serve.specs.Answers.{EndsBy, HasAnswered, HasBroken, HasRun, HasWritten, IsAnswered, IsMade, IsSessionAt, IsStoppedBy, IsTurned, IsTurnedOut, place}
+use Rattle.pr_serve.specs.Answers.{EndsBy, HasRun, HasWritten, IsAnswered, IsMade, IsSessionAt, IsStoppedBy, IsTurned, IsTurnedOut, place}
 use Rattle.pr_serve.specs.Faults.{fault_for}
-use Rattle.pr_serve.specs.Output.{Answering, IsWhole, IsWholeAt, Makes, Next, Nothing, Run, Turn, begun, frame_of, frames}
+use Rattle.pr_serve.specs.Output.{Answering, IsWhole, IsWholeAt, Next, Run, Turn, begun, frame_of, frames}
 use Rattle.pr_serve.specs.Sinks.{IsWritten, Sink, Wrote, WroteSome}
-use Rattle.pr_serve.proofs.Written.{wrote_front, wrote_none, wrote_some_then, wrote_then}
+use Rattle.pr_serve.proofs.Written.{wrote_none, wrote_some_then, wrote_then}
 
 -- ---- entries behind others
 

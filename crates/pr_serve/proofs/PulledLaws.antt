@@ -1,19 +1,18 @@
 -- Entries that a node makes of messages, in a history.
-use Rattle.std.proofs.Common.{◌≡◌, ◌<◌, ◌≤◌, ◌+◌, max, nat_eq, cond, ℕ, List, [], ◌∷◌, IsTrue, Bool, true, false, refl, sym, ap, subst, ◌∙◌, arith, inl, inr}
+use Rattle.std.proofs.Common.{◌≡◌, ◌<◌, ◌≤◌, max, cond, ℕ, List, [], ◌∷◌, IsTrue, Bool, refl, sym, ap, subst, ◌∙◌, arith, inr}
 use Rattle.std.proofs.lemmas.Bool.Decides.{Decides-eqb}
 use Rattle.pr_names.specs.Span.{Span}
-use Rattle.pr_vectors.specs.Vector.{Covers, Le, clock_of, join_of}
+use Rattle.pr_vectors.specs.Vector.{clock_of, join_of}
 use Rattle.pr_vectors.proofs.Vectors.{clock_of-vector_of, length-vector_of}
 use Rattle.pr_inval.specs.declared.msg.Msg.{Msg}
 use Rattle.pr_inval.specs.Points.{to_of}
-use Rattle.pr_inval.specs.Standing.{Standing}
 use Rattle.pr_story.specs.declared.entry.Entry.{Entry}
 use Rattle.pr_story.specs.declared.event.Event.{Event}
 use Rattle.pr_story.specs.declared.event.Event.TheVariants.{Accepted, Gapped}
 use Rattle.pr_story.specs.Clients.{is_with_needs}
 use Rattle.pr_story.specs.History.{AtEveryPlace, IsClosed, NodeEntry, Plan, WasSent, current_clock, current_vector, journal}
 use Rattle.pr_story.specs.Laws.{Facts}
-use Rattle.pr_story.specs.Lawful.{HasCause, IsOwnLawful, IsPlaced, MayComeByJournal, Valid}
+use Rattle.pr_story.specs.Lawful.{HasCause, IsPlaced, MayComeByJournal, Valid}
 use Rattle.pr_story.specs.Messages.{IsHonest}
 use Rattle.pr_story.specs.Turns.{is_with_session}
 use Rattle.pr_story.proofs.Foreign.{honest_keeps_closed}
@@ -21,7 +20,7 @@ use Rattle.pr_story.proofs.Laws.{facts_throughout}
 use Rattle.pr_story.proofs.Making.{join_clock}
 use Rattle.pr_story.proofs.OneMore.{one_more}
 use Rattle.pr_story.proofs.Points.{covered_node}
-use Rattle.pr_serve.specs.Laws.{AreHonest, HonestStayClosed, IsGoodWith, SentStayValid, StaysClosed, WereSentTo, with_entries}
+use Rattle.pr_serve.specs.Laws.{AreHonest, HonestStayClosed, SentStayValid, StaysClosed, WereSentTo, with_entries}
 use Rattle.pr_serve.specs.Pulling.{AreTakenBy, IsTakenBy, TakesIn, after}
 use Rattle.pr_serve.proofs.TakenIn.{nobody}
 

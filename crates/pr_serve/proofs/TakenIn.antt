@@ -1,10 +1,8 @@
 -- Messages that a node takes in, one after the other.
-use Rattle.std.proofs.Common.{◌≡◌, ◌⊎◌, ◌<◌, ◌≤◌, ◌+◌, ◌-◌, ◌^◌, max, ℕ, List, [], ◌∷◌, ◌++◌, length, reverse, Option, Some, None, Result, Ok, Err, false, refl, sym, ap, subst, ◌∙◌, append_assoc, arith, inl, inr}
-use Rattle.std.specs.Io.KnownBytes.{Consumes, IsAtEnd, prepend_known}
+use Rattle.std.proofs.Common.{◌≡◌, ◌≤◌, ℕ, List, [], ◌∷◌, ◌++◌, length, reverse, Ok, false, refl, sym, ap, subst, ◌∙◌, append_assoc, arith}
 use Rattle.std.proofs.lemmas.List.{append-nil, length-append, reverse-append}
 use Rattle.pr_names.specs.Span.{Span}
 use Rattle.pr_inval.specs.declared.msg.Msg.{Msg}
-use Rattle.pr_inval.specs.declared.node_fault.NodeFault.{NodeFault}
 use Rattle.pr_inval.specs.declared.taken.Taken.{Taken}
 use Rattle.pr_inval.specs.declared.taken.Taken.TheVariants as takens
 use Rattle.pr_inval.specs.Standing.{Standing}
@@ -12,13 +10,11 @@ use Rattle.pr_node.specs.Calls.{Adds, AddsAlone, IsTaken}
 use Rattle.pr_node.specs.Stored.{NodeMeaning}
 use Rattle.pr_story.specs.declared.entry.Entry.{Entry}
 use Rattle.pr_story.specs.declared.event.Event.{Event}
-use Rattle.pr_story.specs.Lawful.{IsOwnLawful, last_time}
+use Rattle.pr_story.specs.Lawful.{IsOwnLawful}
 use Rattle.pr_wire.specs.declared.format.Format.{Format}
 use Rattle.pr_wire.specs.Spelling.{spelling}
-use Rattle.pr_serve.specs.Frames.{IsFramed, IsPart, IsWanted}
+use Rattle.pr_serve.specs.Frames.{IsFramed, IsWanted}
 use Rattle.pr_serve.specs.Pulling.{AreTakenBy, AreWanted, EndByte, Frame, IsTakenBy, Pulled, TakesIn, TakesOne, TookIn, after, messages, pulled_text}
-use Rattle.pr_serve.specs.declared.serve_fault.ServeFault.{ServeFault}
-use Rattle.pr_serve.specs.declared.serve_fault.ServeFault.TheVariants as faults
 
 -- ---- one message
 

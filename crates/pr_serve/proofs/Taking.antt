@@ -1,9 +1,9 @@
 -- Bytes that are taken off an input, one after the other.
-use Rattle.std.proofs.Common.{◌≡◌, ◌⊎◌, ◌<◌, ◌≤◌, ◌+◌, ◌-◌, ℕ, suc, List, [], ◌∷◌, ◌++◌, length, Option, Some, None, Result, Ok, Err, refl, sym, ap, subst, ◌∙◌, append_assoc, arith, inl, inr}
-use Rattle.std.specs.Io.KnownBytes.{Consumes, IsAtEnd, prepend_known}
+use Rattle.std.proofs.Common.{◌≤◌, ℕ, List, [], ◌∷◌, ◌++◌, Option, Some, None, Result, Ok, Err, refl, sym, ap, subst, ◌∙◌, append_assoc, arith, inl, inr}
+use Rattle.std.specs.Io.KnownBytes.{Consumes, prepend_known}
 use Rattle.std.proofs.lemmas.List.{append-nil, length-append}
 use Rattle.pr_ports.specs.Faults.{HasRisen}
-use Rattle.pr_serve.specs.Inputs.{HasFailed, Held, Input, IsNextByte, NoneStands, Stops, Takes, ahead}
+use Rattle.pr_serve.specs.Inputs.{HasFailed, Input, IsNextByte, NoneStands, Stops, Takes, ahead}
 use Rattle.pr_serve.specs.declared.stop.Stop.{Stop}
 use Rattle.pr_serve.specs.declared.stop.Stop.TheVariants as stops
 

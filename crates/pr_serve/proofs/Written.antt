@@ -1,9 +1,8 @@
 -- Bytes that are written, piece after piece.
-use Rattle.std.proofs.Common.{◌≡◌, ◌⊎◌, ◌<◌, ◌≤◌, ◌+◌, ◌-◌, ℕ, List, [], ◌∷◌, ◌++◌, length, take, drop, Option, Some, None, Result, Ok, Err, refl, sym, ap, subst, ◌∙◌, append_assoc, arith, inl, inr, length-drop}
+use Rattle.std.proofs.Common.{◌≡◌, ◌<◌, ◌+◌, ◌-◌, ℕ, List, [], ◌++◌, length, take, drop, Option, Some, None, Result, Err, sym, ap, subst, ◌∙◌, append_assoc, arith, length-drop}
 use Rattle.std.specs.Io.KnownBytes.{Appends, Keeps}
 use Rattle.std.proofs.lemmas.List.{append-nil, length-append, take_all, take-append-drop, take-append-le}
 use Rattle.std.proofs.Math.Seq.{take-add, take-append-add}
-use Rattle.pr_ports.specs.Faults.{HasRisen}
 use Rattle.pr_serve.specs.declared.serve_fault.ServeFault.{ServeFault}
 use Rattle.pr_serve.specs.declared.serve_fault.ServeFault.TheVariants as faults
 use Rattle.pr_serve.specs.Sinks.{IsWritten, Sink, Wrote, WroteSome}

@@ -1,12 +1,10 @@
 -- How the answer to an ask ends.
-use Rattle.std.specs.Prelude.{◌≡◌, ◌≤◌, ◌+◌, ℕ, Bool, true, false, List, [], ◌∷◌, ◌++◌, take, Option, Some, None, Result, Ok, Err}
-use Rattle.std.specs.Io.KnownBytes.{Appends}
-use Rattle.pr_names.specs.Span.{Span}
+use Rattle.std.specs.Prelude.{◌≡◌, ◌≤◌, ◌+◌, ℕ, Bool, true, false, List, [], Option, Some, None, Result, Ok, Err}
 use Rattle.pr_inval.specs.declared.msg.Msg.{Msg}
 use Rattle.pr_inval.specs.declared.node_fault.NodeFault.{NodeFault}
 use Rattle.pr_inval.specs.declared.node_fault.NodeFault.TheVariants as node_faults
 use Rattle.pr_inval.specs.Messages.{IsMessage}
-use Rattle.pr_inval.specs.Standing.{SessionMeaning, Standing}
+use Rattle.pr_inval.specs.Standing.{SessionMeaning}
 use Rattle.pr_node.specs.Stored.{NodeMeaning}
 use Rattle.pr_story.specs.declared.entry.Entry.{Entry}
 use Rattle.pr_story.specs.Lawful.{last_time}
@@ -15,7 +13,7 @@ use Rattle.pr_wire.specs.Spelling.{spelling}
 use Rattle.pr_serve.specs.declared.ask.Ask.{Ask}
 use Rattle.pr_serve.specs.declared.serve_fault.ServeFault.{ServeFault}
 use Rattle.pr_serve.specs.declared.serve_fault.ServeFault.TheVariants as faults
-use Rattle.pr_serve.specs.Output.{Answering, IsOutput, IsWhole, Next, Nothing, Run, Turn, begun, frames}
+use Rattle.pr_serve.specs.Output.{Answering, IsOutput, IsWhole, Nothing, Run, Turn, begun, frames}
 use Rattle.pr_serve.specs.Sinks.{Sink, Wrote, WroteSome}
 
 -- node and session begin an answer, or a part of one, with so many turns left

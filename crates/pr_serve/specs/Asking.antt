@@ -1,5 +1,5 @@
 -- What a server finds at a place of its input.
-use Rattle.std.specs.Prelude.{◌≡◌, ◌⊎◌, ℕ, List, [], ◌∷◌, ◌++◌, Option, Some, None, Result, Ok, Err}
+use Rattle.std.specs.Prelude.{◌≡◌, ℕ, List, [], ◌∷◌, ◌++◌, Option, Some, None, Result, Ok, Err}
 use Rattle.pr_serve.specs.declared.ask.Ask.{Ask}
 use Rattle.pr_serve.specs.declared.coming.Coming.TheVariants.{Front}
 use Rattle.pr_serve.specs.declared.stop.Stop.{Stop}

@@ -1,5 +1,5 @@
 -- Asks for a stream, and their one spelling (docs/WIRE.md).
-use Rattle.std.specs.Prelude.{◌≡◌, ◌≤◌, ◌<◌, ◌^◌, ℕ, zero, suc, Bool, true, false, not, nat_le, ◌==◌, ◌&&◌, List, [], ◌∷◌, ◌++◌, length, Option, Some, None}
+use Rattle.std.specs.Prelude.{◌≤◌, ◌<◌, ◌^◌, ℕ, Bool, nat_le, ◌==◌, ◌&&◌, List, [], ◌∷◌, ◌++◌, length, Option}
 use Rattle.pr_sets.specs.Spans.{IsSet}
 use Rattle.pr_vectors.specs.Vector.{IsVector}
 use Rattle.pr_wire.specs.declared.format.Format.TheVariants.{Two}

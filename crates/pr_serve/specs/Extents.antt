@@ -1,5 +1,5 @@
 -- Where an ask ends, by the counts and lengths that it gives.
-use Rattle.std.specs.Prelude.{◌≡◌, ◌+◌, ◌-◌, ◌*◌, ◌%◌, ◌^◌, ℕ, zero, suc, List, [], ◌∷◌, ◌++◌, Option, Some, None}
+use Rattle.std.specs.Prelude.{◌+◌, ◌-◌, ◌*◌, ◌%◌, ◌^◌, ℕ, zero, suc, List, [], ◌∷◌, Option, Some, None}
 use Rattle.pr_serve.specs.declared.coming.Coming.{Coming}
 use Rattle.pr_serve.specs.declared.coming.Coming.TheVariants.{Front, Entries, Clocks, Count, Low, LowName, High, HighName, Tail, Nothing}
 

@@ -1,5 +1,5 @@
 -- What a puller finds at a place of its input.
-use Rattle.std.specs.Prelude.{◌≡◌, ◌⊎◌, ◌<◌, ◌^◌, ℕ, List, [], ◌∷◌, ◌++◌, Contains, length, slice_index, Option, Result, Ok, Err}
+use Rattle.std.specs.Prelude.{◌≡◌, ◌⊎◌, ◌<◌, ◌^◌, ℕ, List, [], ◌∷◌, Contains, length, Result, Ok, Err}
 use Rattle.pr_inval.specs.declared.msg.Msg.{Msg}
 use Rattle.pr_story.specs.Counts.{HasKind}
 use Rattle.pr_wire.specs.declared.format.Format.{Format}

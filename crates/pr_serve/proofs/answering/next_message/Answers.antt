@@ -1,4 +1,4 @@
-use Rattle.std.proofs.Common.{Ok, None, Some, subst}
+use Rattle.std.proofs.Common.{subst}
 use Rattle.pr_inval.specs.declared.step.Step.{Step}
 use Rattle.pr_inval.specs.declared.step.Step.TheVariants as steps
 use Rattle.pr_inval.specs.Standing as Standing

@@ -1,7 +1,6 @@
-use Rattle.std.proofs.Common.{◌≢◌, ◌≡◌, [], ◌∷◌, ◌++◌, List, ℕ, None, Some, inl, inr, sym, ap, subst, arith, ◌∙◌}
-use Rattle.pr_serve.specs.declared.coming.Coming.TheVariants.{Nothing}
+use Rattle.std.proofs.Common.{◌≡◌, [], ◌∷◌, ◌++◌, List, ℕ, None, Some, inr, sym, ap, arith, ◌∙◌}
 use Rattle.pr_serve.specs.Inputs.{input}
-use Rattle.pr_serve.proofs.AskExtent.{Extends, extends_all, extends_more, less_than_ask}
+use Rattle.pr_serve.proofs.AskExtent.{extends_all, less_than_ask}
 use Rattle.pr_serve.proofs.AskParts.{bytes_stop, more_comes, so_far, stands_as, under_way}
 use Rattle.pr_serve.proofs.FrameParts.{byte_is, is_stop}
 use Rattle.pr_serve.proofs.Taking.{takes_no_more, takes_then}

@@ -1,4 +1,4 @@
-use Rattle.std.proofs.Common.{[], ◌∷◌, ◌++◌, List, ℕ, None, Some, inl, inr, refl, sym, ap, subst, arith}
+use Rattle.std.proofs.Common.{[], ◌∷◌, ◌++◌, List, ℕ, None, Some, inl, inr, sym, ap, subst, arith}
 use Rattle.pr_wire.specs.Feeding.{Fed}
 use Rattle.pr_wire.specs.Frames.{IsPartial}
 use Rattle.pr_wire.proofs.FrameLemmas.{nothing_in}

@@ -1,4 +1,4 @@
-use Rattle.std.proofs.Common.{[], ◌∷◌, List, ℕ, Some, inl, subst, sym, false, true, IsTrue, ◌≡◌, ◌∙◌, arith}
+use Rattle.std.proofs.Common.{[], ◌∷◌, List, ℕ, Some, inl, subst, sym, false, true, ◌≡◌, ◌∙◌, arith}
 use Rattle.pr_serve.specs.Frames.{IsPart, IsWanted}
 use Rattle.pr_serve.specs.Inputs.{NoneBegins, input}
 use Rattle.pr_serve.proofs.FrameParts.{byte_is, first_stops, is_stop, rest_stops, unwanted_begins}

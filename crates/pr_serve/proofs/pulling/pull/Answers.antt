@@ -2,7 +2,6 @@ use Rattle.std.proofs.Common.{◌≡◌, ℕ, subst, arith}
 use Rattle.pr_serve.specs.Faults.{fault_at}
 use Rattle.pr_node.specs.Stored.{means}
 use Rattle.pr_serve.specs.declared.framing.Part.{Part}
-use Rattle.pr_serve.specs.declared.framing.Part.TheVariants as parts
 use Rattle.pr_serve.specs.Frames.{HasFound}
 use Rattle.pr_serve.specs.Inputs.{input}
 use Rattle.pr_serve.proofs.FrameParts.{is_stop}

@@ -1,4 +1,4 @@
-use Rattle.std.proofs.Common.{◌≤◌, ◌-◌, []}
+use Rattle.std.proofs.Common.{◌≤◌, ◌-◌}
 use Rattle.pr_node.specs.Stored.{means}
 use Rattle.pr_serve.specs.Inputs.{input}
 use Rattle.pr_serve.proofs.PullEnds.{Sofar, nothing_held}

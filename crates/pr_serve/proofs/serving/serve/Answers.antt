@@ -1,4 +1,4 @@
-use Rattle.std.proofs.Common.{◌≡◌, ℕ, arith, subst, Option, Ok, Some}
+use Rattle.std.proofs.Common.{◌≡◌, ℕ, arith, subst, Option, Ok}
 use Rattle.pr_node.specs.Stored.{means}
 use Rattle.pr_serve.specs.declared.ask.Ask.{Ask}
 use Rattle.pr_serve.specs.Asking.{IsNextAsk}
@@ -6,8 +6,7 @@ use Rattle.pr_serve.specs.Faults.{fault_at}
 use Rattle.pr_serve.specs.Inputs.{input}
 use Rattle.pr_serve.specs.Sinks.{sink}
 use Rattle.pr_serve.proofs.FrameParts.{is_stop}
-use Rattle.pr_serve.proofs.ServeEnds.{ask_has_bytes, broken_off, few, nothing_served, one_more, stopped}
-use Rattle.pr_serve.proofs.PullEnds.{nothing_held}
+use Rattle.pr_serve.proofs.ServeEnds.{ask_has_bytes, broken_off, few, one_more, stopped}
 use Rattle.pr_serve.proofs.serving.serve.Goals as goal
 
 pub returns-in-Err-clause-so : goal.returns-in-Err-clause-so
