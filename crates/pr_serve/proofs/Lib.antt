@@ -1,0 +1,12 @@
+pub mod AskField
+pub mod AskExtent
+pub mod Taking
+pub mod AskParts
+pub mod FrameParts
+pub mod TakenIn
+pub mod PullEnds
+pub mod AnswerParts
+pub mod Written
+pub mod Going
+pub mod PulledLaws
+pub mod ServeEnds

@@ -1,0 +1,12 @@
+pub mod Asks
+pub mod Extents
+pub mod Inputs
+pub mod Asking
+pub mod Frames
+pub mod Faults
+pub mod Pulling
+pub mod Sinks
+pub mod Output
+pub mod Answers
+pub mod Serving
+pub mod Laws
