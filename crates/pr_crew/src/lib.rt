@@ -5,9 +5,13 @@ mod free_gate;
 mod gate;
 mod looks;
 mod meet_gate;
+mod phase_node;
+mod story;
 #[cfg(test)]
 mod tests;
 
 pub use free_gate::FreeGate;
 pub use gate::Gate;
 pub use meet_gate::MeetGate;
+pub use phase_node::PhaseNode;
+pub use story::Story;
