@@ -14,9 +14,13 @@ made es = map Made es
 abbrev pub opened_of : Stored → Story
 opened_of n = Opened n.id n.stores.gaps.sets n.journal.items
 
+-- a node as it was when its journal had so many entries, and what it has made since
+abbrev pub stories_of : Stored → ℕ → List Story
+stories_of n opened = Opened n.id n.stores.gaps.sets (take opened n.journal.items) ∷ made (drop opened n.journal.items)
+
 -- the node as the phase began, and what it has made since
 abbrev pub stories : PhaseNode → List Story
-stories x = Opened x.node.id x.node.stores.gaps.sets (take x.opened x.node.journal.items) ∷ made (drop x.opened x.node.journal.items)
+stories x = stories_of x.node x.opened
 
 -- whose the entry is
 abbrev pub caller_of : Story → ℕ

@@ -1,12 +1,14 @@
 //! Jobs beside each other, and the gates at which they meet.
 #![tactic(auto)]
 
+mod client_calls;
 mod free_gate;
 mod gate;
 mod looks;
 mod meet_gate;
 mod phase_node;
 mod story;
+mod stream_calls;
 #[cfg(test)]
 mod tests;
 
