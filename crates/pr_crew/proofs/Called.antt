@@ -65,14 +65,6 @@ pub left : {X : Type 0} (sessions : ℕ → Standing) (needs : ℕ → List ℕ)
 left sessions needs k Q P a b C (Ok x) adds ok err = let m = adds x ok in (m.entry ∷ [], one_left sessions needs k (P x) a b m)
 left sessions needs k Q P a b C (Err fault) adds ok err = ([], none_left k a b C fault err)
 
--- a stream that stands at nothing, where any will do
-pub nowhere : ℕ → Standing
-nowhere s = record { names = []; bodies = false; position = []; number = 0; time = 0; sent = λ o t. false }
-
--- clients that have seen nothing, where any will do
-pub nothing : ℕ → List ℕ
-nothing c = []
-
 -- ---- its cell
 
 pub within : (k : ℕ) (x : PhaseNode) (b : Stored) → ((new : List Entry) × Leaves k x.node b new) → x.opened ≤ length b.journal.items
@@ -161,6 +153,7 @@ module _ (plan : Plan) (h : List NodeEntry) (n : ℕ) (p q : NodePass) (t : Turn
     apart = s.apart;
     same = caller;
     by = adds.by ∙ is;
+    early = adds.early;
     lawful = subst (λ (m : ℕ × List (List Span) × List Entry). IsOwnLawful sessions needs m.1 m.0 m.2 adds.entry) (λ i. (s.id i, s.sets i, s.journal_is i)) adds.lawful;
     is = adds.is;
   }
@@ -193,6 +186,15 @@ pub makes : {X : Type 0} (plan : Plan) (h : List NodeEntry) (n : ℕ) (cell : No
     → ((v : X) → Q v → Adds (means x.node) (means b) sessions needs k (P v)) → IfOk r Q → IfErr r (IsFault (means x.node) (means b) (Cause (means x.node))) → Makes plan h n sessions needs P Cause p q r
 makes plan h n cell p q t x b Cause sessions needs k Q P r of pass turn is grown caller added alike by adds ok err =
     makes_so plan h n p q t x b (shown plan h n cell p t x of pass turn is grown) is caller added Cause alike sessions needs k Q P r by adds ok err
+
+-- the same of a node whose cell still has it as opened
+pub own_of : (x y : PhaseNode) (t : Turn PhaseNode Story) (number : ℕ) → y.opened ≡ x.opened
+    → ((new : List Story) × (stories_of y.node x.opened ≡ seen t.seat ++ new) × All (λ e. caller_of e ≡ number) new)
+    → (new : List Story) × (stories y ≡ seen t.seat ++ new) × All (λ e. caller_of e ≡ number) new
+own_of x y t number same (new, is, all) = (new, ap (stories_of y.node) same ∙ is, all)
+
+pub adding_of : (x y : PhaseNode) (q : NodePass) (t : Turn PhaseNode Story) → y.opened ≡ x.opened → Adding (stories y) q t → Adding (stories_of y.node x.opened) q t
+adding_of x y q t same added new is = added new (ap (stories_of y.node) same ∙ is)
 
 pub time_alike : (heard : ℕ) (a b : NodeMeaning) → a.journal ≡ b.journal → IsTimeWorn a heard → IsTimeWorn b heard
 time_alike heard a b same worn = subst (λ (j : List Entry). IsTimeWorn (record a { journal = j }) heard) same worn

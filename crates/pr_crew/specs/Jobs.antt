@@ -47,7 +47,6 @@ module _ (plan : Plan) (h : List NodeEntry) where
   pub record IsRun (k : ℕ) (xs : List New) : Type 0 where
     pub job : All (λ x. x.job ≡ k) xs
     pub run : IsJobRun plan h (reverse xs)
-    pub rises : IsStrictlyIncreasing (times_of xs)
 
   -- the job was given where it went its way, and else it has begun
   abbrev pub Gives : {X E : Type 0} → Job → List New → Result X E → Type 0
@@ -56,21 +55,17 @@ module _ (plan : Plan) (h : List NodeEntry) where
 
   -- ---- a client's job
 
-  -- the entry is this client's
-  abbrev pub IsOfClientAlone : ℕ → NodeEntry → Type 0
-  IsOfClientAlone client e = IsTrue (is_of_client e.entry.event client)
-
   -- a client's call was refused for want of memory, or as its node is worn
   abbrev pub ClientFailed : ℕ → List ℕ → NodePass → Result (Unit {0}) NodeFault → Type 0
   ClientFailed n needs p (Ok x) = Unit {0}
   ClientFailed n needs p (Err fault) = IsFaultFor (IsWornAt n (λ a. IsWriteWorn a needs) p) fault
 
-  -- job k has run these commands of a client at node n, and ended so
-  pub record ClientDone (n client k : ℕ) (asked : List Command) (p : NodePass) (end : Result (Unit {0}) NodeFault) (xs : List New) : Type 0 where
+  -- job k has run this job of a client at node n, and ended so
+  pub record ClientDone (n client k : ℕ) (job : Job) (p : NodePass) (end : Result (Unit {0}) NodeFault) (xs : List New) : Type 0 where
     pub run : IsRun k xs
     pub made : MadeAt n p xs
-    pub gives : Gives (ClientJob asked) xs end
-    pub of_client : All (λ x. IsOfClientAlone client x.made) xs
+    pub gives : Gives job xs end
+    pub of_client : All (λ x. IsTrue (is_of_client x.made.entry.event client)) xs
     pub failed : ClientFailed n (client_vector (plain (reverse xs) ++ h) client) p end
 
   -- ---- a flow's job
@@ -108,7 +103,8 @@ module _ (plan : Plan) (h : List NodeEntry) where
     pub source : MadeAt (plan.stream s).source p (at_source xs)
     pub destination : MadeAt (plan.stream s).destination q (at_destination xs)
     pub gives : FlowGives (FlowJob s turns) xs end
-    pub of_stream : All (λ x. IsTrue (is_of_stream x.made.entry.event s)) xs
+    pub rises : IsStrictlyIncreasing (times_of xs)
+    pub of_stream : All (λ x. IsTrue (is_of_stream x.made.entry.event s) × IsNoMissing x.made.entry.event) xs
     pub stands : IsSession plan (plain (reverse xs) ++ h) s session
     pub lied : FlowLied s xs end
     pub failed : FlowFailed s p q xs end

@@ -1,3 +1,6 @@
+pub mod Acting
+pub mod Asking
+pub mod Clients
 pub mod Jobs
 pub mod Lines
 pub mod Making

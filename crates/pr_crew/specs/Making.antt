@@ -1,5 +1,5 @@
 -- What one call of a job makes, at the cell of a node.
-use Rattle.std.specs.Prelude.{ℕ, List, [], ◌∷◌, ◌++◌, ◌≡◌, ◌≢◌, ◌<◌, All, Result, Ok, Err, false, reverse}
+use Rattle.std.specs.Prelude.{ℕ, List, [], ◌∷◌, ◌++◌, ◌≡◌, ◌≢◌, ◌<◌, ◌≤◌, All, Result, Ok, Err, false, reverse}
 use Rattle.pr_cell.specs.declared.cell.Cell.{Cell}
 use Rattle.pr_cell.specs.declared.pass.Pass.{Pass}
 use Rattle.pr_cell.specs.Passes.{held, opening_of, since}
@@ -66,6 +66,7 @@ module _ (plan : Plan) (h : List NodeEntry) (n : ℕ) where
     pub apart : AreOthers p.number others
     pub same : IsSameCaller p q
     pub by : entry.caller ≡ p.number
+    pub early : entry.time ≤ 4611686018427387903
     pub lawful : IsOwnLawful sessions needs (plan.sets n) n (journal_with (before ++ others)) entry
     pub is : P entry
 

@@ -1,9 +1,10 @@
-// The calls of a client at a node's cell. Each takes one turn.
+// The calls of a client at a node's cell. Each takes one turn, and answers what the client has seen then.
 ghost use Rattle.pr_cell.specs.Passes.{IsPassOf};
-ghost use Rattle.pr_crew.specs.Making.{IsCellOf, Makes};
+ghost use Rattle.pr_crew.specs.Asking.{IsRead, IsWritten};
+ghost use Rattle.pr_crew.specs.Making.{IsCellOf, IsSameCaller, Makes};
 ghost use Rattle.pr_crew.specs.Stories.{stories};
 ghost use Rattle.pr_inval.specs.Standing.{Standing};
-ghost use Rattle.pr_node.specs.Calls.{IsDone, IsTimeWorn, IsSeen, IsWriteWorn};
+ghost use Rattle.pr_node.specs.Calls.{IsTimeWorn, IsWriteWorn};
 ghost use Rattle.pr_story.specs.History.{NodeEntry, Plan};
 ghost use Rattle.std.specs.Prelude.{ℕ, List, [], ◌≡◌, ◌<◌, ◌≤◌, ◌+◌, ◌^◌, false, true, length};
 
@@ -11,7 +12,6 @@ use crate::PhaseNode;
 use pr_cell::{Cell, Pass};
 use pr_inval::NodeFault;
 use pr_names::Name;
-use pr_node::{Done, Seen};
 use pr_vectors::Vector;
 use std::sync::Wait;
 
@@ -24,17 +24,17 @@ pub(crate) fn write<R: Wait>(
     name: &Name,
     body: &[u8],
     needs: &Vector,
-) -> (Pass<PhaseNode>, Result<Done, NodeFault>)
+) -> (Pass<PhaseNode>, Result<Vector, NodeFault>)
     requires pass { IsPassOf stories cell.now pass }
     requires room { pass.turns < 2 ^ 40 }
     requires short { length body.now ≤ 65536 }
-    ensures pass { IsPassOf stories cell.now result.0 × (result.0.turns ≡ pass.turns + 1) }
-    ensures makes { (plan : Plan) (h : List NodeEntry) (n : ℕ) (sessions : ℕ → Standing) → IsCellOf plan h n cell.now → Makes plan h n sessions (λ _. needs.now) (IsDone client name.now body.now false) (λ a. IsWriteWorn a needs.now) pass result.0 result.1 }
+    ensures pass { IsPassOf stories cell.now result.0 × IsSameCaller pass result.0 × (result.0.turns ≡ pass.turns + 1) }
+    ensures makes { (plan : Plan) (h : List NodeEntry) (n : ℕ) (sessions : ℕ → Standing) → IsCellOf plan h n cell.now → Makes plan h n sessions (λ _. needs.now) (IsWritten client name.now body.now false needs.now) (λ a. IsWriteWorn a needs.now) pass result.0 result.1 }
 {
     let number = pass.number();
     let mut turn = cell.take(rt, pass);
-    let done = turn.value().node.write(number, client, name, body, needs);
-    (cell.put(turn), done)
+    let after = turn.value().write(number, client, name, body, needs);
+    (cell.put(turn), after)
 }
 
 /// A client's delete. It may wait for the turns of other jobs.
@@ -45,16 +45,16 @@ pub(crate) fn delete<R: Wait>(
     client: u32,
     name: &Name,
     needs: &Vector,
-) -> (Pass<PhaseNode>, Result<Done, NodeFault>)
+) -> (Pass<PhaseNode>, Result<Vector, NodeFault>)
     requires pass { IsPassOf stories cell.now pass }
     requires room { pass.turns < 2 ^ 40 }
-    ensures pass { IsPassOf stories cell.now result.0 × (result.0.turns ≡ pass.turns + 1) }
-    ensures makes { (plan : Plan) (h : List NodeEntry) (n : ℕ) (sessions : ℕ → Standing) → IsCellOf plan h n cell.now → Makes plan h n sessions (λ _. needs.now) (IsDone client name.now [] true) (λ a. IsWriteWorn a needs.now) pass result.0 result.1 }
+    ensures pass { IsPassOf stories cell.now result.0 × IsSameCaller pass result.0 × (result.0.turns ≡ pass.turns + 1) }
+    ensures makes { (plan : Plan) (h : List NodeEntry) (n : ℕ) (sessions : ℕ → Standing) → IsCellOf plan h n cell.now → Makes plan h n sessions (λ _. needs.now) (IsWritten client name.now [] true needs.now) (λ a. IsWriteWorn a needs.now) pass result.0 result.1 }
 {
     let number = pass.number();
     let mut turn = cell.take(rt, pass);
-    let done = turn.value().node.delete(number, client, name, needs);
-    (cell.put(turn), done)
+    let after = turn.value().delete(number, client, name, needs);
+    (cell.put(turn), after)
 }
 
 /// A client's read. It may wait for the turns of other jobs.
@@ -65,14 +65,14 @@ pub(crate) fn read<R: Wait>(
     client: u32,
     name: &Name,
     needs: &Vector,
-) -> (Pass<PhaseNode>, Result<Seen, NodeFault>)
+) -> (Pass<PhaseNode>, Result<Vector, NodeFault>)
     requires pass { IsPassOf stories cell.now pass }
     requires room { pass.turns < 2 ^ 40 }
-    ensures pass { IsPassOf stories cell.now result.0 × (result.0.turns ≡ pass.turns + 1) }
-    ensures makes { (plan : Plan) (h : List NodeEntry) (n : ℕ) (sessions : ℕ → Standing) → IsCellOf plan h n cell.now → Makes plan h n sessions (λ _. needs.now) (IsSeen client name.now) (λ a. IsTimeWorn a 0) pass result.0 result.1 }
+    ensures pass { IsPassOf stories cell.now result.0 × IsSameCaller pass result.0 × (result.0.turns ≡ pass.turns + 1) }
+    ensures makes { (plan : Plan) (h : List NodeEntry) (n : ℕ) (sessions : ℕ → Standing) → IsCellOf plan h n cell.now → Makes plan h n sessions (λ _. needs.now) (IsRead client name.now needs.now) (λ a. IsTimeWorn a 0) pass result.0 result.1 }
 {
     let number = pass.number();
     let mut turn = cell.take(rt, pass);
-    let seen = turn.value().node.read(number, client, name, needs);
-    (cell.put(turn), seen)
+    let after = turn.value().read(number, client, name, needs);
+    (cell.put(turn), after)
 }

@@ -1,7 +1,9 @@
 //! Jobs beside each other, and the gates at which they meet.
 #![tactic(auto)]
 
+mod cell_side;
 mod client_calls;
+mod client_job;
 mod free_gate;
 mod gate;
 mod looks;

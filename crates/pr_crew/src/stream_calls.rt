@@ -1,6 +1,6 @@
 // The calls of a flow at a node's cell. Each takes one turn.
 ghost use Rattle.pr_cell.specs.Passes.{IsPassOf};
-ghost use Rattle.pr_crew.specs.Making.{IsCellOf, Makes};
+ghost use Rattle.pr_crew.specs.Making.{IsCellOf, IsSameCaller, Makes};
 ghost use Rattle.pr_crew.specs.Stories.{stories};
 ghost use Rattle.pr_inval.specs.Messages.{IsMessage};
 ghost use Rattle.pr_inval.specs.Standing.{IsSameSession, Standing, means};
@@ -26,7 +26,7 @@ pub(crate) fn turn<R: Wait>(
     requires pass { IsPassOf stories cell.now pass }
     requires room { pass.turns < 2 ^ 40 }
     requires attached { IsTrue (means session.old).attached }
-    ensures pass { IsPassOf stories cell.now result.0 × (result.0.turns ≡ pass.turns + 1) }
+    ensures pass { IsPassOf stories cell.now result.0 × IsSameCaller pass result.0 × (result.0.turns ≡ pass.turns + 1) }
     ensures grammar { IfOk result.1 IsStepSpelled }
     ensures session { OnErr result.1 (IsSameSession (means session.old) (means session.new)) }
     ensures makes { (plan : Plan) (h : List NodeEntry) (n : ℕ) (needs : ℕ → List ℕ) → IsCellOf plan h n cell.now → Makes plan h n (λ _. (means session.old).standing) needs (λ step e. IsStep (means session.old).stream step e × HasGoneOn (means session.old) (means session.new) true e) (λ a. IsTimeWorn a (means session.old).standing.time) pass result.0 result.1 }
@@ -47,7 +47,7 @@ pub(crate) fn accept<R: Wait>(
     requires pass { IsPassOf stories cell.now pass }
     requires room { pass.turns < 2 ^ 40 }
     requires message { IsMessage msg }
-    ensures pass { IsPassOf stories cell.now result.0 × (result.0.turns ≡ pass.turns + 1) }
+    ensures pass { IsPassOf stories cell.now result.0 × IsSameCaller pass result.0 × (result.0.turns ≡ pass.turns + 1) }
     ensures makes { (plan : Plan) (h : List NodeEntry) (n : ℕ) (sessions : ℕ → Standing) (needs : ℕ → List ℕ) → IsCellOf plan h n cell.now → Makes plan h n sessions needs (IsTaken msg) (λ a. IsTimeWorn a msg.time) pass result.0 result.1 }
 {
     let number = pass.number();
@@ -66,7 +66,7 @@ pub(crate) fn down<R: Wait>(
 ) -> (Pass<PhaseNode>, Result<(), NodeFault>)
     requires pass { IsPassOf stories cell.now pass }
     requires room { pass.turns < 2 ^ 40 }
-    ensures pass { IsPassOf stories cell.now result.0 × (result.0.turns ≡ pass.turns + 1) }
+    ensures pass { IsPassOf stories cell.now result.0 × IsSameCaller pass result.0 × (result.0.turns ≡ pass.turns + 1) }
     ensures session { OnErr result.1 (IsSameSession (means session.old) (means session.new)) }
     ensures makes { (plan : Plan) (h : List NodeEntry) (n : ℕ) (needs : ℕ → List ℕ) → IsCellOf plan h n cell.now → Makes plan h n (λ _. (means session.old).standing) needs (λ _ e. IsDownFor (means session.old).stream cause e × HasGoneOn (means session.old) (means session.new) (means session.old).attached e) (λ a. IsTimeWorn a (means session.old).standing.time) pass result.0 result.1 }
 {

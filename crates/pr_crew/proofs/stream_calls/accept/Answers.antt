@@ -2,7 +2,8 @@ use Rattle.std.proofs.Common.{ℕ, List, [], refl, ◌∙◌, ap, sym}
 use Rattle.std.specs.Prelude.{true}
 use Rattle.pr_node.specs.Calls.{IsTaken, IsTimeWorn}
 use Rattle.pr_crew.specs.Stories.{stories}
-use Rattle.pr_crew.proofs.Called.{adds_own, left, makes, nothing, nowhere, time_alike, within}
+use Rattle.pr_crew.specs.Acting.{nothing, nowhere}
+use Rattle.pr_crew.proofs.Called.{adds_own, left, makes, time_alike, within}
 use Rattle.pr_crew.proofs.stream_calls.accept.Goals as goal
 
 pub invariant_of-value : goal.invariant_of-value
