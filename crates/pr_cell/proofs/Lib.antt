@@ -1,4 +1,4 @@
-mod Basics
+pub mod Basics
 mod Keeps
 mod Takes
 mod Puts

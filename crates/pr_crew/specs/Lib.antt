@@ -1,1 +1,7 @@
+pub mod Acting
+pub mod Asking
+pub mod Clients
+pub mod Jobs
 pub mod Lines
+pub mod Making
+pub mod Stories

@@ -27,3 +27,4 @@ pub mod Stepping
 pub mod Snapshots
 pub mod Starts
 pub mod Begun
+pub mod OfClients

@@ -96,6 +96,15 @@ abbrev pub IsSeen : ℕ → List ℕ → Seen → Entry → Type 0
 IsSeen client name (seen.Reply reply) e = (at : List ℕ) × (e.event ≡ Answered client name reply at)
 IsSeen client name (seen.Behind has) e = (needs : List ℕ) × (e.event ≡ Behind client needs has)
 
+-- what a client has seen after a write, or a read, at a node that then has this vector
+abbrev pub seen_after_done : Done → List ℕ → List ℕ → List ℕ
+seen_after_done (done.Stamp stamp) before now = now
+seen_after_done (done.Behind has) before now = before
+
+abbrev pub seen_after_read : Seen → List ℕ → List ℕ → List ℕ
+seen_after_read (seen.Reply reply) before now = now
+seen_after_read (seen.Behind has) before now = before
+
 -- a turn of the stream
 abbrev pub IsStep : ℕ → Step → Entry → Type 0
 IsStep stream (step.Sent msg) e = (e.event ≡ Sent msg) × (msg.stream ≡ stream) × IsNoCheckpoint msg.kind

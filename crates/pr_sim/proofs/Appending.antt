@@ -19,7 +19,8 @@ use Rattle.pr_story.specs.Places.{places_of}
 use Rattle.pr_sim.specs.Holding.{HasRoomFor, IsNext, IsSentOfStream, KeepsRecords, NamesClient, held_of, journal_of}
 use Rattle.pr_sim.specs.Places.{HasNoted}
 use Rattle.pr_sim.specs.Running.{AreClients, AreRoutes, AreSent}
-use Rattle.pr_sim.proofs.OfClients.{client_saw, not_equal, same_is}
+use Rattle.pr_story.proofs.OfStreams.{not_equal, same_is}
+use Rattle.pr_sim.proofs.OfClients.{client_saw}
 use Rattle.pr_sim.specs.declared.engine.Engine.{Engine}
 use Rattle.pr_sim.proofs.Step.{some_is}
 use Rattle.pr_sim.proofs.Telling.{StandsAt, many_places, reverse_more, some_entry, stands_at}

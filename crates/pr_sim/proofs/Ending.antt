@@ -17,8 +17,11 @@ use Rattle.pr_merge.specs.Holding.{AreSessions}
 use Rattle.pr_sim.specs.Running.{AreClients, AreRoutes, AreSent, IsRunning, Stands}
 use Rattle.pr_story.specs.Counts.{Declared}
 use Rattle.pr_sim.specs.Commands.{GivesIt, MakesOne}
-use Rattle.pr_sim.proofs.Quiet.{IsOfNoClient, IsOfNoStream, clients_stay, index_stays, no_session, nothing_sent, sessions_stay}
-use Rattle.pr_sim.proofs.OfClients.{IsOfClient, client_moved, client_saw, not_equal}
+use Rattle.pr_story.proofs.OfStreams.{IsOfNoClient, IsOfNoStream}
+use Rattle.pr_sim.proofs.Quiet.{clients_stay, index_stays, no_session, nothing_sent, sessions_stay}
+use Rattle.pr_node.proofs.OfClients.{IsOfClient}
+use Rattle.pr_story.proofs.OfStreams.{not_equal}
+use Rattle.pr_sim.proofs.OfClients.{client_moved, client_saw}
 use Rattle.pr_sim.proofs.Running.{never, only, runs_more}
 use Rattle.pr_sim.proofs.Step.{HasMoved, length_put, one_step, own_lawful, journal_then}
 use Rattle.pr_sim.specs.declared.engine.Engine.{Engine}

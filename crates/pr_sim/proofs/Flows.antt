@@ -39,8 +39,8 @@ use Rattle.pr_merge.specs.Holding.{IsSession}
 use Rattle.pr_sim.specs.Running.{HasAttached, IsRunning, Tells}
 use Rattle.pr_story.specs.Counts.{Declared}
 use Rattle.pr_sim.specs.declared.engine.Engine.{Engine}
-use Rattle.pr_sim.proofs.OfClients.{not_equal}
-use Rattle.pr_sim.proofs.OfStreams.{IsOfStream, session_of, stream_ends}
+use Rattle.pr_story.proofs.OfStreams.{IsOfStream, after_gap, down_is as is_down}
+use Rattle.pr_sim.proofs.OfStreams.{session_of, stream_ends}
 use Rattle.pr_sim.proofs.Step.{HasMoved, put}
 
 -- ---- growing
@@ -94,9 +94,6 @@ stays_attached d a h g e f s k l known (x, is, on) =
 
 -- ---- a flow goes down
 
-is_down : (s : ℕ) (cause : Cause) → IsOfStream s (Down s cause)
-is_down s cause = record { with = λ t on. sym ((Decides-eqb s t).0 on); others = λ t other. not_equal s t (λ e. other (sym e)); timed = (Decides-eqb s s).1 refl; heard = λ sessions. refl; no_client = λ c. refl }
-
 pub down_ends : (d : Declared) (attached : ℕ → Bool) (h : List NodeEntry) (e f : Engine) (k : IsRunning d attached h e) (n : ℕ) (m x : Stored) (place : ℕ) (moved : HasMoved e f n m x place) (caller : ℕ)
     (s : ℕ) (old new : Remembered) (known : s < length e.sessions.items) (was : get_or e.sessions.items s None ≡ Some old) (cause : Cause)
     (a : Adds (means m) (means x) (λ _. (session.means old).standing) (client_vector h) caller (λ entry. IsDownFor old.stream cause entry × HasGoneOn (session.means old) (session.means new) old.attached entry))
@@ -144,13 +141,6 @@ pub gapped_ends : (s left : ℕ) (m : Msg) (has : List ℕ) (made then : NodeEnt
 gapped_ends s left m has made then is down =
     subst (λ (v : Event). AreTurns s (Some m) left (v ∷ then.entry.event ∷ [])) (sym is)
     (subst (λ (v : Event). AreTurns s (Some m) left (Gapped m has ∷ v ∷ [])) (sym down) (refl, refl))
-
--- behind a gap the destination may note it
-after_gap : (made : NodeEntry) (h : List NodeEntry) (n s : ℕ) (m : Msg) (has : List ℕ) → made.node ≡ n → made.entry.event ≡ Gapped m has → m.stream ≡ s → is_after_gap (journal (made ∷ h) n) s ≡ true
-after_gap made h n s m has at is of =
-    ap (λ (b : Bool). is_after_gap (cond b (made.entry ∷ journal h n) (journal h n)) s) ((Decides-eqb made.node n).1 at)
-    ∙ ap (λ (v : Event). cond (is_of_stream v s) (is_gap v) (is_after_gap (journal h n) s)) is
-    ∙ ap (λ (b : Bool). cond b true (is_after_gap (journal h n) s)) ((Decides-eqb m.stream s).1 of)
 
 pub can_go_down : (d : Declared) (attached : ℕ → Bool) (h : List NodeEntry) (f : Engine) (made : NodeEntry) (s : ℕ) (m : Msg) (has : List ℕ) → IsRunning d attached (made ∷ h) f → made.entry.event ≡ Gapped m has → IsOnTheWay h s m
     → CanGoDown d.plan (made ∷ h) s Gap

@@ -21,19 +21,9 @@ use Rattle.pr_story.specs.Commands.{Command, Gives, ToRead, ToWrite}
 use Rattle.pr_story.specs.History.{Plan, NodeEntry, clock_brought, current_clock, current_vector}
 use Rattle.pr_story.specs.Lawful.{HasCause, IsOwnLawful, IsPlaced, MayCome}
 use Rattle.pr_story.specs.Knowledge.{IsMark, IsNewestKnown, KnowsGone}
-use Rattle.pr_sim.specs.Commands.{seen_after_done, seen_after_read}
 use Rattle.pr_sim.specs.Running.{AreClients}
-use Rattle.pr_sim.proofs.Quiet.{IsOfNoStream, client_stays}
-
-pub not_equal : (a b : ℕ) → (a ≡ b → ⊥) → nat_eq a b ≡ false
-not_equal a b other = by (nat_eq a b) (Decides-eqb a b).0
-  where
-    by : (x : Bool) → (IsTrue x → a ≡ b) → x ≡ false
-    by true is = absurd (other (is refl))
-    by false is = refl
-
-pub same_is : (a : ℕ) → nat_eq a a ≡ true
-same_is a = (Decides-eqb a a).1 refl
+use Rattle.pr_story.proofs.OfStreams.{not_equal}
+use Rattle.pr_sim.proofs.Quiet.{client_stays}
 
 -- a client moved to this node
 pub client_moved : (plan : Plan) (e : NodeEntry) (h : List NodeEntry) (count : ℕ) (homes : List ℕ) (seen : List (List ℕ)) (client : ℕ) → AreClients plan h count homes seen
@@ -77,86 +67,3 @@ client_saw plan e h count homes seen client vector k known stays others now = re
         ∙ get_or-set_same seen client vector zero_vector (let l : length seen ≡ length homes = k.many in omega arith)
         ∙ now ∙ ap (λ (i : ℕ). client_vector (e ∷ h) i) (sym same)
     seen_is c lt (inr other) = get_or-set_other seen client c vector zero_vector other ∙ k.seen_is c lt ∙ sym (client_stays plan e h c (others c other)).1
-
--- ---- writes and reads
-
--- an event that is the client's own, made at node n
-pub record IsOfClient (client : ℕ) (command : Command) (n : ℕ) (event : Event) : Type 0 where
-  pub no_stream : IsOfNoStream event
-  pub needs_of : (c : ℕ) → IsTrue (is_with_needs event c) → client ≡ c
-  pub placed : (plan : Plan) (h : List NodeEntry) → n ≡ client_node plan h client → IsPlaced plan h n event
-  pub cause : (h : List NodeEntry) → HasCause h n event
-  pub gives : Gives command n event
-  pub stays : (c m : ℕ) → node_after event n c m ≡ m
-  pub others : (c : ℕ) → (c ≡ client → ⊥) → is_of_client event c ≡ false
-
-of_client : (client : ℕ) (command : Command) (n : ℕ) (event : Event) → Gives command n event → ((c : ℕ) → is_with_needs event c ≡ nat_eq client c) → ((c : ℕ) → is_of_client event c ≡ nat_eq client c)
-    → IsOfNoStream event → ((plan : Plan) (h : List NodeEntry) → n ≡ client_node plan h client → IsPlaced plan h n event) → ((h : List NodeEntry) → HasCause h n event) → ((c m : ℕ) → node_after event n c m ≡ m)
-    → IsOfClient client command n event
-of_client client command n event gives needs of no_stream placed cause stays = record {
-  no_stream = no_stream;
-  needs_of = λ c on. (Decides-eqb client c).0 (sym (needs c) ∙ on);
-  placed = placed;
-  cause = cause;
-  gives = gives;
-  stays = stays;
-  others = λ c other. of c ∙ not_equal client c (λ t. other (sym t));
-}
-
-pub behind_is : (client : ℕ) (command : Command) (n : ℕ) (needs has : List ℕ) → Gives command n (Behind client needs has) → IsOfClient client command n (Behind client needs has)
-behind_is client command n needs has gives = of_client client command n (Behind client needs has) gives (λ c. refl) (λ c. refl) (λ s. refl) (λ plan h at. at) (λ h. tt) (λ c m. refl)
-
-pub done_is : (client : ℕ) (name bytes : List ℕ) (gone : Bool) (n : ℕ) (answer : Done) (entry : Entry) → IsDone client name bytes gone answer entry → IsOfClient client (ToWrite client name bytes gone) n entry.event
-done_is client name bytes gone n (done.Stamp stamp) entry (write, after, is, named, stamped, g) =
-    subst (λ (v : Event). IsOfClient client (ToWrite client name bytes gone) n v) (sym is)
-    (of_client client (ToWrite client name bytes gone) n (Wrote client write bytes after) (refl, named, refl, g) (λ c. refl) (λ c. refl) (λ s. refl) (λ plan h at. at) (λ h. tt) (λ c m. refl))
-done_is client name bytes gone n (done.Behind has) entry (needs, is) =
-    subst (λ (v : Event). IsOfClient client (ToWrite client name bytes gone) n v) (sym is) (behind_is client (ToWrite client name bytes gone) n needs has refl)
-
-pub seen_is_of : (client : ℕ) (name : List ℕ) (n : ℕ) (answer : Seen) (entry : Entry) → IsSeen client name answer entry → IsOfClient client (ToRead client name) n entry.event
-seen_is_of client name n (seen.Reply reply) entry (at, is) =
-    subst (λ (v : Event). IsOfClient client (ToRead client name) n v) (sym is)
-    (of_client client (ToRead client name) n (Answered client name reply at) (refl, refl) (λ c. refl) (λ c. refl) (λ s. refl) (λ plan h at. at) (λ h. tt) (λ c m. refl))
-seen_is_of client name n (seen.Behind has) entry (needs, is) =
-    subst (λ (v : Event). IsOfClient client (ToRead client name) n v) (sym is) (behind_is client (ToRead client name) n needs has refl)
-
--- ---- what a client has seen after a write or a read
-
-one_clock : (s r a p w q : ℕ) → s ≤ a → r ≡ cond (nat_eq w q) (max a p) a → max s r ≡ max a (cond (nat_eq w q) p 0)
-one_clock s r a p w q le is = grind (arith, nat_tests)
-
-wrote_seen : (j : List Entry) (needs : List ℕ) (p : Point) → Le needs (current_vector j) → join_of needs (raised (current_vector j) p) ≡ vector_of (λ w. max (current_clock j w) (cond (nat_eq w p.node) p.clock 0))
-wrote_seen j needs p le = same_vector (λ w. max (clock_of needs w) (clock_of (raised (current_vector j) p) w)) (λ w. max (current_clock j w) (cond (nat_eq w p.node) p.clock 0))
-    (λ w lt.
-    let r = clock_of-vector_of (λ k. cond (nat_eq k p.node) (max (clock_of (current_vector j) k) p.clock) (clock_of (current_vector j) k)) w lt in
-    let c = clock_of-vector_of (current_clock j) w lt in
-    let l = le w lt in
-    one_clock (clock_of needs w) (clock_of (raised (current_vector j) p) w) (current_clock j w) p.clock w p.node (omega arith)
-    (r ∙ ap (λ (x : ℕ). cond (nat_eq w p.node) (max x p.clock) x) c))
-
-read_seen : (j : List Entry) (needs : List ℕ) → Le needs (current_vector j) → join_of needs (current_vector j) ≡ vector_of (λ w. max (current_clock j w) 0)
-read_seen j needs le = same_vector (λ w. max (clock_of needs w) (clock_of (current_vector j) w)) (λ w. max (current_clock j w) 0)
-    (λ w lt. let c = clock_of-vector_of (current_clock j) w lt in let l = le w lt in omega arith)
-
-module _ (sessions : ℕ → Standing) (plan : Plan) (n : ℕ) (j : List Entry) (needs vector : List ℕ) where
-  pub done_seen : (client : ℕ) (name bytes : List ℕ) (gone : Bool) (answer : Done) (entry : Entry) → IsDone client name bytes gone answer entry → IsOwnLawful sessions (λ c. needs) (plan.sets n) n j entry
-      → vector ≡ current_vector (entry ∷ j) → seen_after_done answer needs vector ≡ seen_after entry.event client needs
-  done_seen client name bytes gone (done.Stamp stamp) entry (write, after, is, named, stamped, g) own now =
-      let may = subst (λ (v : Event). MayCome (IsNewestKnown j) (KnowsGone j) (IsMark j) sessions (λ c. needs) (plan.sets n) n j entry.time v) is own.may_come in
-      now ∙ ap (λ (v : Event). vector_of (λ w. max (current_clock j w) (clock_brought v w))) is
-      ∙ sym (wrote_seen j needs write.stamp may.7)
-      ∙ ap (λ (v : List ℕ). join_of needs (raised v write.stamp)) (sym may.1)
-      ∙ sym (ap (λ (b : Bool). cond b (join_of needs (raised after write.stamp)) needs) (same_is client))
-      ∙ ap (λ (v : Event). seen_after v client needs) (sym is)
-  done_seen client name bytes gone (done.Behind has) entry (had, is) own now = ap (λ (v : Event). seen_after v client needs) (sym is)
-
-  pub read_seen_is : (client : ℕ) (name : List ℕ) (answer : Seen) (entry : Entry) → IsSeen client name answer entry → IsOwnLawful sessions (λ c. needs) (plan.sets n) n j entry
-      → vector ≡ current_vector (entry ∷ j) → seen_after_read answer needs vector ≡ seen_after entry.event client needs
-  read_seen_is client name (seen.Reply reply) entry (at, is) own now =
-      let may = subst (λ (v : Event). MayCome (IsNewestKnown j) (KnowsGone j) (IsMark j) sessions (λ c. needs) (plan.sets n) n j entry.time v) is own.may_come in
-      now ∙ ap (λ (v : Event). vector_of (λ w. max (current_clock j w) (clock_brought v w))) is
-      ∙ sym (read_seen j needs may.2)
-      ∙ ap (λ (v : List ℕ). join_of needs v) (sym may.1)
-      ∙ sym (ap (λ (b : Bool). cond b (join_of needs at) needs) (same_is client))
-      ∙ ap (λ (v : Event). seen_after v client needs) (sym is)
-  read_seen_is client name (seen.Behind has) entry (had, is) own now = ap (λ (v : Event). seen_after v client needs) (sym is)

@@ -34,51 +34,13 @@ use Rattle.pr_sim.specs.Places.{HasNoted, OfStream}
 use Rattle.pr_story.specs.Places.{sent_places}
 use Rattle.pr_sim.specs.declared.engine.Engine.{Engine}
 use Rattle.pr_sim.specs.declared.engine.Route.{Route}
-use Rattle.pr_sim.proofs.OfClients.{not_equal}
+use Rattle.pr_story.proofs.OfStreams.{IsOfStream, attached_is, idle_is, later, other_stream, same_is, sent_is, stale_is, stands_on}
 use Rattle.pr_sim.proofs.Running.{attached_put, never, only, runs_more}
-use Rattle.pr_sim.proofs.Quiet.{IsOfNoClient, clients_stay, places_stay, stands_still}
+use Rattle.pr_story.proofs.OfStreams.{IsOfNoClient}
+use Rattle.pr_sim.proofs.Quiet.{clients_stay, places_stay, stands_still}
 use Rattle.pr_sim.proofs.Step.{HasMoved, here, length_put, one_step, own_lawful, place_of, put, some_is, there}
 
--- what is asked of an event of stream s
-pub record IsOfStream (s : ℕ) (event : Event) : Type 0 where
-  pub with : (t : ℕ) → IsTrue (is_with_session event t) → t ≡ s
-  pub others : (t : ℕ) → (t ≡ s → ⊥) → is_of_stream event t ≡ false
-  pub timed : is_timed event s ≡ true
-  pub heard : (sessions : ℕ → Standing) → heard_time sessions event ≡ (sessions s).time
-  pub no_client : IsOfNoClient event
-
-other_stream : (s t : ℕ) → (t ≡ s → ⊥) → nat_eq s t ≡ false
-other_stream s t other = not_equal s t (λ e. other (sym e))
-
-same_stream : (s t : ℕ) → IsTrue (nat_eq s t) → t ≡ s
-same_stream s t is = sym ((Decides-eqb s t).0 is)
-
-itself : (s : ℕ) → nat_eq s s ≡ true
-itself s = (Decides-eqb s s).1 refl
-
-pub attached_is : (s : ℕ) (at : List ℕ) → IsOfStream s (Attached s at)
-attached_is s at = record { with = same_stream s; others = other_stream s; timed = itself s; heard = λ sessions. refl; no_client = λ c. refl }
-
-pub sent_is : (s : ℕ) (msg : Msg) → msg.stream ≡ s → IsOfStream s (Sent msg)
-sent_is s msg is = record {
-  with = λ t on. same_stream msg.stream t on ∙ is;
-  others = λ t other. other_stream msg.stream t (λ e. other (e ∙ is));
-  timed = (Decides-eqb msg.stream s).1 is;
-  heard = λ sessions. ap (λ (t : ℕ). (sessions t).time) is;
-  no_client = λ c. refl;
-}
-
-pub idle_is : (s : ℕ) → IsOfStream s (Idle s)
-idle_is s = record { with = same_stream s; others = other_stream s; timed = itself s; heard = λ sessions. refl; no_client = λ c. refl }
-
-pub stale_is : (s : ℕ) (cut : List ℕ) → IsOfStream s (Stale s cut)
-stale_is s cut = record { with = same_stream s; others = other_stream s; timed = itself s; heard = λ sessions. refl; no_client = λ c. refl }
-
 -- ---- the session that the call was given
-
-pub later : (a b t time : ℕ) (on : Bool) → on ≡ true → time ≡ max a b + 1 → b ≡ t → time ≡ max t (cond on time 0)
-later a b t time true is own same = omega arith
-later a b t time false is own same = absurd (cc)
 
 pub session_of : (plan : Plan) (h : List NodeEntry) (sessions : List (Option Remembered)) (s : ℕ) (x : Remembered) → AreSessions plan h sessions → s < length sessions → get_or sessions s None ≡ Some x → IsSession plan h s x
 session_of plan h sessions s x are lt was =
@@ -89,14 +51,7 @@ pub goes_on : (plan : Plan) (e : NodeEntry) (h : List NodeEntry) (s : ℕ) (old 
     → IsOfStream s e.entry.event → e.entry.time ≡ max (last_time (journal h e.node)) (stream_time h s) + 1 → (IsTrue attached → IsAttached (e ∷ h) s) → IsSession plan (e ∷ h) s new
 goes_on plan e h s old new attached i on of time is = record {
   stream = on.stream ∙ i.stream;
-  stands = record {
-    names = on.after.names ∙ i.stands.names;
-    bodies = on.after.bodies ∙ i.stands.bodies;
-    position = on.after.position ∙ ap (λ (t : ℕ). position_after e.entry.event t old.position) i.stream ∙ ap (λ (p : List ℕ). position_after e.entry.event s p) i.stands.position;
-    number = on.after.number ∙ ap (λ (t : ℕ). count_after e.entry.event t old.number) i.stream ∙ ap (λ (k : ℕ). count_after e.entry.event s k) i.stands.number;
-    time = on.after.time ∙ later (last_time (journal h e.node)) (stream_time h s) (stream_time h s) e.entry.time (is_timed e.entry.event s) of.timed time refl;
-    sent = λ o t. on.after.sent o t ∙ ap (λ (k : ℕ). sent_after e.entry.event k o t ((session.standing_of old).sent o t)) i.stream ∙ ap (λ (b : Bool). sent_after e.entry.event s o t b) (i.stands.sent o t);
-  };
+  stands = stands_on plan e h s (session.means old) (session.means new) attached i.stream i.stands on of time;
   attached = λ now. is (sym on.is_attached ∙ now);
 }
 
@@ -253,7 +208,7 @@ module _ (d : Declared) (attached_before : ℕ → Bool) (h : List NodeEntry) (e
       stream_ends (GivesIt (ToAttach s) tt) (λ entry. IsAttachedAt old.stream at entry × HasGoneOn (session.means old) (session.means new) true entry) a true
       (attached_after (Single (ToAttach s)) attached_before) same_sessions same_routes same_homes same_seen
       (subst (λ (v : Event). IsOfStream s v) is (attached_is s at)) a.is.1 (λ yes. inl (subst (λ (v : Event). Attaches v s) is refl))
-      (sym (ap (λ (b : Bool). b || attached_before s) (itself s))) (λ t other. sym (ap (λ (b : Bool). b || attached_before t) (other_stream s t other)))
+      (sym (ap (λ (b : Bool). b || attached_before s) (same_is s))) (λ t other. sym (ap (λ (b : Bool). b || attached_before t) (other_stream s t other)))
       (subst (λ (v : Event). IsPlaced d.plan h n v) is placed) (subst (λ (v : Event). HasCause h n v) is tt) (subst (λ (v : Event). Gives (ToAttach s) n v) is refl)
       (subst (λ (v : Event). (msg : Msg) → Sends v msg → IsMessage msg) is (λ msg bad. absurd bad))
       (ap (λ xs. length xs.items) same_sent)
@@ -333,7 +288,7 @@ detach_ends d attached h e f s old new running known was now by same_nodes same_
       clients = ap (λ xs. length xs.items) same_homes ∙ running.clients;
       streams = many ∙ running.streams;
       attached_are = λ t x is. attached_put e.sessions.items s new attached (attached_after (Detach s) attached) known running.attached_are
-          (by.attached ∙ sym (ap (λ (b : Bool). not b && attached s) (itself s))) (λ t other. sym (ap (λ (b : Bool). not b && attached t) (other_stream s t other))) t x
+          (by.attached ∙ sym (ap (λ (b : Bool). not b && attached s) (same_is s))) (λ t other. sym (ap (λ (b : Bool). not b && attached t) (other_stream s t other))) t x
           (subst (λ (xs : List (Option Remembered)). get_or xs t None ≡ Some x) now is);
     }
 

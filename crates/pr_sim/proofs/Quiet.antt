@@ -18,6 +18,7 @@ use Rattle.pr_story.specs.Places as story
 use Rattle.pr_story.specs.Places.{sent_places}
 use Rattle.pr_merge.specs.Holding.{AreSessions, IsSession}
 use Rattle.pr_sim.specs.Running.{AreClients, AreSent}
+use Rattle.pr_story.proofs.OfStreams.{IsOfNoClient, IsOfNoStream}
 
 -- ---- streams
 
@@ -61,9 +62,6 @@ stands_still plan e h s x off i = record {
   attached = λ is. inr (i.attached is);
 }
 
-abbrev pub IsOfNoStream : Event → Type 0
-IsOfNoStream event = (s : ℕ) → is_of_stream event s ≡ false
-
 pub sessions_stay : (plan : Plan) (e : NodeEntry) (h : List NodeEntry) (xs : List (Option Remembered)) → IsOfNoStream e.entry.event → AreSessions plan h xs → AreSessions plan (e ∷ h) xs
 sessions_stay plan e h xs off each s lt =
     let x = each s lt in
@@ -98,9 +96,6 @@ seen_stays _ c v off = refl
 pub client_stays : (plan : Plan) (e : NodeEntry) (h : List NodeEntry) (c : ℕ) → is_of_client e.entry.event c ≡ false
     → (client_node plan (e ∷ h) c ≡ client_node plan h c) × (client_vector (e ∷ h) c ≡ client_vector h c)
 client_stays plan e h c off = (node_stays e.entry.event e.node c (client_node plan h c) off, seen_stays e.entry.event c (client_vector h c) off)
-
-abbrev pub IsOfNoClient : Event → Type 0
-IsOfNoClient event = (c : ℕ) → is_of_client event c ≡ false
 
 pub clients_stay : (plan : Plan) (e : NodeEntry) (h : List NodeEntry) (count : ℕ) (homes : List ℕ) (seen : List (List ℕ)) → IsOfNoClient e.entry.event → AreClients plan h count homes seen → AreClients plan (e ∷ h) count homes seen
 clients_stay plan e h count homes seen off k = record {

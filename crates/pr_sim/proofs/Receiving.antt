@@ -31,9 +31,10 @@ use Rattle.pr_story.specs.Places.{IsSending, SendsAt}
 use Rattle.pr_story.specs.Places as story
 use Rattle.pr_story.specs.Places.{sent_places}
 use Rattle.pr_sim.specs.declared.engine.Engine.{Engine}
-use Rattle.pr_sim.proofs.OfClients.{not_equal}
+use Rattle.pr_story.proofs.OfStreams.{not_equal}
 use Rattle.pr_sim.proofs.Running.{attached_put, never, only, runs_more}
-use Rattle.pr_sim.proofs.Quiet.{IsOfNoClient, clients_stay, stands_still}
+use Rattle.pr_story.proofs.OfStreams.{IsOfNoClient}
+use Rattle.pr_sim.proofs.Quiet.{clients_stay, stands_still}
 use Rattle.pr_sim.proofs.Sendings.{none_sent, sendings}
 use Rattle.pr_sim.proofs.Step.{HasMoved, here, length_put, one_step, put, some_is, there}
 

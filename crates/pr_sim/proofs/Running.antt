@@ -10,7 +10,7 @@ use Rattle.pr_story.specs.Counts.{Counts, Declared, IsDeclared}
 use Rattle.pr_story.specs.History.{NodeEntry}
 use Rattle.pr_story.specs.Turns.{is_of_stream}
 use Rattle.pr_sim.specs.Running.{IsRunning, Stands}
-use Rattle.pr_sim.proofs.OfClients.{same_is}
+use Rattle.pr_story.proofs.OfStreams.{same_is}
 use Rattle.pr_sim.proofs.Step.{here, put, some_is, there}
 use Rattle.pr_sim.specs.declared.engine.Engine.{Engine}
 

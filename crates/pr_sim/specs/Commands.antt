@@ -103,14 +103,3 @@ StepEnds line d attached h e (Err refused) = Ends line d attached h e (Err fault
 abbrev pub IsNoLie : {E : Type 0} → Result Stop E → Type 0
 IsNoLie (Ok (stops.Lied stream number sent got)) = ⊥
 IsNoLie _ = Unit {0}
-
--- ---- clients
-
--- what a client has seen after a write, or a read, at a node that then has this vector
-abbrev pub seen_after_done : Done → List ℕ → List ℕ → List ℕ
-seen_after_done (done.Stamp stamp) before now = now
-seen_after_done (done.Behind has) before now = before
-
-abbrev pub seen_after_read : Seen → List ℕ → List ℕ → List ℕ
-seen_after_read (seen.Reply reply) before now = now
-seen_after_read (seen.Behind has) before now = before

@@ -1,5 +1,6 @@
 // Commands of clients.
-ghost use Rattle.pr_sim.specs.Commands.{ForEachRun, GivesOne, seen_after_done, seen_after_read};
+ghost use Rattle.pr_node.specs.Calls.{seen_after_done, seen_after_read};
+ghost use Rattle.pr_sim.specs.Commands.{ForEachRun, GivesOne};
 ghost use Rattle.pr_sim.specs.Running.{IsKept};
 ghost use Rattle.pr_story.specs.Commands.{ToMove, ToRead, ToWrite};
 ghost use Rattle.std.specs.Prelude.{◌≡◌, ◌<◌, ◌≤◌, [], false, true, length};

@@ -51,3 +51,4 @@ pub mod OneThread
 pub mod Phases
 pub mod FirstPath
 pub mod Worked
+pub mod OfStreams

@@ -186,7 +186,7 @@ job_tail : (plan : Plan) (h : List NodeEntry) (b : Bool) (x : New) (t : List New
 job_tail plan h true x t r = r.1
 job_tail plan h false x t r = r
 
-session_of : (event : Event) (s : ℕ) → IsTrue (is_with_session event s) → IsTrue (is_of_stream event s)
+pub session_of : (event : Event) (s : ℕ) → IsTrue (is_with_session event s) → IsTrue (is_of_stream event s)
 session_of (Attached stream at) s t = t
 session_of (Sent msg) s t = t
 session_of (Idle stream) s t = t

@@ -7,7 +7,7 @@ use Rattle.pr_story.specs.Commands.{ToWrite}
 use Rattle.pr_story.specs.History.{current_vector, journal}
 use Rattle.pr_story.specs.Turns.{standing}
 use Rattle.pr_sim.specs.Commands.{GivesIt}
-use Rattle.pr_sim.proofs.OfClients.{done_is, done_seen}
+use Rattle.pr_node.proofs.OfClients.{done_is, done_seen}
 use Rattle.pr_sim.proofs.Ending.{client_ends}
 use Rattle.pr_sim.proofs.Faults.{no_memory, not_made, same_journal, stopped_same, stopped_still, this_cause, write_is_worn}
 use Rattle.pr_sim.proofs.Step.{place_len, replaced, within_of}
