@@ -1,1 +1,3 @@
-mod Bits
+pub mod Bits
+pub mod Called
+pub mod Entries

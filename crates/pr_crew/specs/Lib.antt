@@ -1,1 +1,4 @@
+pub mod Jobs
 pub mod Lines
+pub mod Making
+pub mod Stories

@@ -1,13 +1,19 @@
 //! Jobs beside each other, and the gates at which they meet.
 #![tactic(auto)]
 
+mod client_calls;
 mod free_gate;
 mod gate;
 mod looks;
 mod meet_gate;
+mod phase_node;
+mod story;
+mod stream_calls;
 #[cfg(test)]
 mod tests;
 
 pub use free_gate::FreeGate;
 pub use gate::Gate;
 pub use meet_gate::MeetGate;
+pub use phase_node::PhaseNode;
+pub use story::Story;
