@@ -1,3 +1,4 @@
 pub mod Bits
 pub mod Called
 pub mod Entries
+pub mod Assembly

@@ -1,0 +1,192 @@
+-- The entries of a phase's jobs, put together.
+use Rattle.std.proofs.Common.{◌≡◌, ◌⊎◌, ℕ, zero, suc, ◌+◌, ◌<◌, ◌≤◌, List, [], ◌∷◌, ◌++◌, inl, inr, refl, sym, ◌∙◌, ap, subst, map, length, get_or, reverse, arith}
+use Rattle.std.specs.Prelude.{◌↔◌, All, AllPairs, Bool, Contains, Option, Some, None, filter, max, slice_get, slice_index}
+use Rattle.std.specs.List.{cons_option, filter_map, range_with_len}
+use Rattle.std.specs.List.Sorted.{IsStrictlyIncreasing}
+use Rattle.std.proofs.lemmas.List.{append-nil, append_assoc, get_or-map, length-map, reverse-append}
+use Rattle.std.proofs.lemmas.List.Elements.{All-nil, All-cons}
+use Rattle.std.proofs.lemmas.List.Kept.{AllPairs-cons, AllPairs-filter, AllPairs-from_increasing}
+use Rattle.pr_merge.specs.Merged.{IsMerged}
+use Rattle.pr_merge.specs.Phases.{EachGives, IsMergedPhase, IsOwnList, StandByTime, entries_at, list_of, times_of}
+use Rattle.pr_merge.proofs.Orders.{map_of_pairs}
+use Rattle.pr_story.specs.declared.entry.Entry.{Entry}
+use Rattle.pr_story.specs.History.{NodeEntry, Plan, journal}
+use Rattle.pr_story.specs.Lawful.{IsOwnLawful, heard_time, last_time}
+use Rattle.pr_story.specs.Merging.{IsNodeRun, New, just, plain}
+use Rattle.pr_story.proofs.InOrder.{pairs_none}
+use Rattle.pr_story.proofs.Sorted.{contains_none, first_or_later, is_first, is_later, pairs_first, pairs_later}
+use Rattle.pr_crew.specs.Assembly.{AreMadeBy, IsOfOneNode}
+use Rattle.pr_crew.specs.Jobs.{IsNew}
+
+-- what holds of each pair of a mapped list holds of what is mapped
+pairs_of_map : {X Y : Type 0} (f : X → Y) (R : Y → Y → Type 0) (xs : List X) → AllPairs R (map f xs) → AllPairs (λ x y. R (f x) (f y)) xs
+pairs_of_map f R xs all i j d less lt =
+    subst (λ y. R y (f (get_or xs j d))) (get_or-map f xs i d (f d) (omega (arith, less, lt)))
+    (subst (R (get_or (map f xs) i (f d))) (get_or-map f xs j d (f d) lt) (all i j (f d) less (omega (arith, lt, length-map xs f))))
+
+-- ---- the entries of one node with their jobs
+
+module _ (plan : Plan) (h : List NodeEntry) (nodes : ℕ → List Entry) (jobs : ℕ → List New) (a : AreMadeBy plan h nodes jobs) where
+  module _ (n : ℕ) where
+    -- each of the entries, behind those before them, with what its job says of it
+    abbrev pub IsLifted : List Entry → List Entry → List New → Type 0
+    IsLifted before [] xs = xs ≡ []
+    IsLifted before (e ∷ rest) [] = ⊥
+    IsLifted before (e ∷ rest) (x ∷ xs) = Contains (jobs x.job) x × IsNew plan h n before e x × IsLifted (before ++ e ∷ []) rest xs
+
+    lift : (before rest : List Entry) → nodes n ≡ before ++ rest → (xs : List New) × IsLifted before rest xs
+    lift before [] is = ([], refl)
+    lift before (e ∷ rest) is =
+        let x = a.each n before e rest is in
+        let more = lift (before ++ e ∷ []) rest (is ∙ sym (append_assoc before (e ∷ []) rest)) in
+        (x.0 ∷ more.0, (x.1, x.2, more.1))
+
+    -- they are a run of the node
+    node_run : (before rest : List Entry) (xs t : List New) → IsLifted before rest xs → just t ≡ reverse before → IsNodeRun plan h n t → IsNodeRun plan h n (reverse xs ++ t)
+    node_run before [] [] t lifted same run = run
+    node_run before [] (x ∷ xs) t lifted same run = let bad : x ∷ xs ≡ [] = lifted in absurd (cc)
+    node_run before (e ∷ rest) [] t lifted same run = absurd lifted
+    node_run before (e ∷ rest) (x ∷ xs) t (has, is, lifted) same run =
+        let entry : x.made.entry ≡ e = ap (λ (m : NodeEntry). m.entry) is.made in
+        let lawful : IsOwnLawful (λ s. x.session) (λ c. x.needs) (plan.sets n) n (just t ++ journal h n) x.made.entry =
+        subst (λ (y : Entry). IsOwnLawful (λ s. x.session) (λ c. x.needs) (plan.sets n) n (just t ++ journal h n) y) (sym entry)
+            (subst (λ (j : List Entry). IsOwnLawful (λ s. x.session) (λ c. x.needs) (plan.sets n) n (j ++ journal h n) e) (sym same) is.lawful) in
+        let then : just (x ∷ t) ≡ reverse (before ++ e ∷ []) = ap (λ (j : List Entry). x.made.entry ∷ j) same ∙ ap (λ (y : Entry). y ∷ reverse before) entry ∙ sym (reverse-append before (e ∷ [])) in
+        subst (λ (ys : List New). IsNodeRun plan h n ys) (sym (ap (λ (ys : List New). ys ++ t) (reverse-append (x ∷ []) xs) ∙ append_assoc (reverse xs) (x ∷ []) t))
+        (node_run (before ++ e ∷ []) rest xs (x ∷ t) lifted then (lawful, run))
+
+    -- and their times rise
+    abbrev IsAbove : ℕ → List New → Type 0
+    IsAbove low [] = Unit {0}
+    IsAbove low (x ∷ xs) = (low < x.made.entry.time) × IsAbove x.made.entry.time xs
+
+    last_is : (before : List Entry) (e : Entry) (j : List Entry) → last_time (reverse (before ++ e ∷ []) ++ j) ≡ e.time
+    last_is before e j = ap (λ (es : List Entry). last_time (es ++ j)) (reverse-append before (e ∷ []))
+
+    above : (before rest : List Entry) (xs : List New) → IsLifted before rest xs → IsAbove (last_time (reverse before ++ journal h n)) xs
+    above before [] [] lifted = tt
+    above before [] (x ∷ xs) lifted = let bad : x ∷ xs ≡ [] = lifted in absurd (cc)
+    above before (e ∷ rest) [] lifted = absurd lifted
+    above before (e ∷ rest) (x ∷ xs) (has, is, lifted) =
+        let entry : x.made.entry ≡ e = ap (λ (m : NodeEntry). m.entry) is.made in
+        let time : e.time ≡ max (last_time (reverse before ++ journal h n)) (heard_time (λ s. x.session) e.event) + 1 = is.lawful.time in
+        let same : x.made.entry.time ≡ e.time = ap (λ (y : Entry). y.time) entry in
+        (omega arith, subst (λ (low : ℕ). IsAbove low xs) (last_is before e (journal h n) ∙ sym same) (above (before ++ e ∷ []) rest xs lifted))
+
+    lower : (low high : ℕ) (xs : List New) → low ≤ high → IsAbove high xs → IsAbove low xs
+    lower low high [] le all = tt
+    lower low high (x ∷ xs) le (lt, all) = (omega arith, all)
+
+    all_above : (low : ℕ) (xs : List New) → IsAbove low xs → All (λ t. low < t) (times_of xs)
+    all_above low [] all = All-nil (λ t. low < t)
+    all_above low (x ∷ xs) (lt, all) = All-cons (λ t. low < t) x.made.entry.time (times_of xs) lt (all_above low xs (lower low x.made.entry.time xs (omega arith) all))
+
+    pairs_rise : (low : ℕ) (xs : List New) → IsAbove low xs → AllPairs (λ a b. a < b) (times_of xs)
+    pairs_rise low [] all = pairs_none (λ a b. a < b)
+    pairs_rise low (x ∷ xs) (lt, all) = AllPairs-cons (λ a b. a < b) x.made.entry.time (times_of xs) (all_above x.made.entry.time xs all) (pairs_rise x.made.entry.time xs all)
+
+    rising : (low : ℕ) (xs : List New) → IsAbove low xs → IsStrictlyIncreasing (times_of xs)
+    rising low xs all k lt = pairs_rise low xs all k (k + 1) _ (omega arith) lt
+
+    -- all of the node
+    pub list : List New
+    list = (lift [] (nodes n) refl).0
+
+    pub lifted : IsLifted [] (nodes n) list
+    unfolding list
+    lifted = (lift [] (nodes n) refl).1
+
+    pub list_runs : IsNodeRun plan h n (reverse list)
+    list_runs = subst (λ (ys : List New). IsNodeRun plan h n ys) (append-nil (reverse list)) (node_run [] (nodes n) list [] lifted refl tt)
+
+    pub list_rises : IsStrictlyIncreasing (times_of list)
+    list_rises = rising (last_time (journal h n)) list (above [] (nodes n) list lifted)
+
+    -- ---- what is in it
+
+    just_lifted : (before rest : List Entry) (xs : List New) → IsLifted before rest xs → just xs ≡ rest
+    just_lifted before [] [] l = refl
+    just_lifted before [] (x ∷ xs) l = let bad : x ∷ xs ≡ [] = l in absurd (cc)
+    just_lifted before (e ∷ rest) [] l = absurd l
+    just_lifted before (e ∷ rest) (x ∷ xs) (has, is, l) =
+        ap (λ (es : List Entry). x.made.entry ∷ es) (just_lifted (before ++ e ∷ []) rest xs l) ∙ ap (λ (m : NodeEntry). m.entry ∷ rest) is.made
+
+    pub just_list : just list ≡ nodes n
+    just_list = just_lifted [] (nodes n) list lifted
+
+    at_node : (before rest : List Entry) (xs : List New) → IsLifted before rest xs → All (λ (x : New). x.made.node ≡ n) xs
+    at_node before [] [] l = All-nil (λ (x : New). x.made.node ≡ n)
+    at_node before [] (x ∷ xs) l = let bad : x ∷ xs ≡ [] = l in absurd (cc)
+    at_node before (e ∷ rest) [] l = absurd l
+    at_node before (e ∷ rest) (x ∷ xs) (has, is, l) = All-cons (λ (y : New). y.made.node ≡ n) x xs (ap (λ (m : NodeEntry). m.node) is.made) (at_node (before ++ e ∷ []) rest xs l)
+
+    pub list_at : All (λ (x : New). x.made.node ≡ n) list
+    list_at = at_node [] (nodes n) list lifted
+
+    -- each is one of its job's
+    of_jobs : (before rest : List Entry) (xs : List New) → IsLifted before rest xs → (x : New) → Contains xs x → Contains (jobs x.job) x
+    of_jobs before [] [] l x has = absurd (contains_none x has)
+    of_jobs before [] (y ∷ ys) l x has = let bad : y ∷ ys ≡ [] = l in absurd (cc)
+    of_jobs before (e ∷ rest) [] l x has = absurd l
+    of_jobs before (e ∷ rest) (y ∷ ys) (own, is, l) x has = elim (first_or_later y ys x has) [
+      | inl here ↦ subst (λ (z : New). Contains (jobs z.job) z) here own
+      | inr later ↦ of_jobs (before ++ e ∷ []) rest ys l x later
+    ]
+
+    pub list_of_jobs : (x : New) → Contains list x → Contains (jobs x.job) x
+    list_of_jobs = of_jobs [] (nodes n) list lifted
+
+    -- and each entry of the node has one
+    has_one : (before rest : List Entry) (xs : List New) → IsLifted before rest xs → (e : Entry) → Contains rest e → (x : New) × Contains xs x × (x.made ≡ record { node = n; entry = e })
+    has_one before [] xs l e has = absurd (contains_none e has)
+    has_one before (y ∷ rest) [] l e has = absurd l
+    has_one before (y ∷ rest) (x ∷ xs) (own, is, l) e has = elim (first_or_later y rest e has) [
+      | inl here ↦ (x, is_first x xs, is.made ∙ ap (λ (z : Entry). record { node = n; entry = z }) here)
+      | inr later ↦ (let found = has_one (before ++ y ∷ []) rest xs l e later in (found.0, is_later x xs found.0 found.1, found.2))
+    ]
+
+    pub list_has : (e : Entry) → Contains (nodes n) e → (x : New) × Contains list x × (x.made ≡ record { node = n; entry = e })
+    list_has = has_one [] (nodes n) list lifted
+
+  -- ---- the jobs' lists
+
+  times_of_just : (xs : List New) → times_of xs ≡ map (λ (e : Entry). e.time) (just xs)
+  times_of_just [] = refl
+  times_of_just (x ∷ xs) = ap (λ (ts : List ℕ). x.made.entry.time ∷ ts) (times_of_just xs)
+
+  -- of a list whose times rise, the times of those chosen rise
+  chosen_rise : (chosen : Entry → Bool) (es : List Entry) → IsStrictlyIncreasing (map (λ (e : Entry). e.time) es) → IsStrictlyIncreasing (map (λ (e : Entry). e.time) (filter chosen es))
+  chosen_rise chosen es rise =
+      let pairs = AllPairs-filter (λ (x y : Entry). x.time < y.time) chosen es (pairs_of_map (λ (e : Entry). e.time) (λ a b. a < b) es (AllPairs-from_increasing (map (λ (e : Entry). e.time) es) rise)) in
+      λ k lt. map_of_pairs (λ (e : Entry). e.time) (λ a b. a < b) (filter chosen es) pairs k (k + 1) _ (omega arith) lt
+
+  pub job_rises : (k : ℕ) → IsStrictlyIncreasing (times_of (jobs k))
+  job_rises k = elim (a.rise k) [
+    | inl rise ↦ rise
+    | inr of ↦ (
+      let n = of.0 in
+      let all : IsStrictlyIncreasing (map (λ (e : Entry). e.time) (nodes n)) =
+      subst (λ (ts : List ℕ). IsStrictlyIncreasing ts) (times_of_just (list n) ∙ ap (λ (es : List Entry). map (λ (e : Entry). e.time) es) (just_list n)) (list_rises n) in
+      subst (λ (ts : List ℕ). IsStrictlyIncreasing ts) (sym (times_of_just (jobs k) ∙ ap (λ (es : List Entry). map (λ (e : Entry). e.time) es) of.2)) (chosen_rise of.1 (nodes n) all)
+    )
+  ]
+
+  -- a job has an entry once
+  pub once : (k : ℕ) (x y : New) → Contains (jobs k) x → Contains (jobs k) y → x.made ≡ y.made → x ≡ y
+  once k x y has_x has_y same =
+      only (jobs k) (pairs_of_map (λ (z : New). z.made.entry.time) (λ s t. s < t) (jobs k) (AllPairs-from_increasing (times_of (jobs k)) (job_rises k))) x y has_x has_y (ap (λ (m : NodeEntry). m.entry.time) same)
+    where
+      only : (xs : List New) → AllPairs (λ (u v : New). u.made.entry.time < v.made.entry.time) xs → (x y : New) → Contains xs x → Contains xs y → x.made.entry.time ≡ y.made.entry.time → x ≡ y
+      only [] all x y hx hy time = absurd (contains_none x hx)
+      only (z ∷ zs) all x y hx hy time = elim (first_or_later z zs x hx) [
+        | inl here ↦ elim (first_or_later z zs y hy) [
+          | inl there ↦ sym here ∙ there
+          | inr later ↦ (let lt : z.made.entry.time < y.made.entry.time = pairs_first (λ (u v : New). u.made.entry.time < v.made.entry.time) z zs y all later in
+            let e : z.made.entry.time ≡ x.made.entry.time = ap (λ (u : New). u.made.entry.time) here in absurd (omega arith))
+        ]
+        | inr after ↦ elim (first_or_later z zs y hy) [
+          | inl there ↦ (let lt : z.made.entry.time < x.made.entry.time = pairs_first (λ (u v : New). u.made.entry.time < v.made.entry.time) z zs x all after in
+            let e : z.made.entry.time ≡ y.made.entry.time = ap (λ (u : New). u.made.entry.time) there in absurd (omega arith))
+          | inr later ↦ only zs (pairs_later (λ (u v : New). u.made.entry.time < v.made.entry.time) z zs all) x y after later time
+        ]
+      ]
