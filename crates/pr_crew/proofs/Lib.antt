@@ -1,4 +1,5 @@
 pub mod Bits
 pub mod Called
 pub mod Entries
+pub mod Placed
 pub mod Assembly

@@ -1,5 +1,5 @@
 -- What the jobs of a phase made beside each other, put together: the entries of all nodes by time, then node.
-use Rattle.std.specs.Prelude.{ℕ, List, [], ◌∷◌, ◌++◌, ◌≡◌, ◌≤◌, ◌+◌, ◌⊎◌, All, Bool, Contains, Option, Some, None, filter, length, map, reverse, slice_get}
+use Rattle.std.specs.Prelude.{ℕ, List, [], ◌∷◌, ◌++◌, ◌≡◌, ◌≤◌, ◌+◌, ◌⊎◌, Bool, Contains, Option, Some, None, filter, length, map, reverse, slice_get}
 use Rattle.std.specs.List.{range_with_len}
 use Rattle.std.specs.List.Sorted.{IsStrictlyIncreasing}
 use Rattle.pr_merge.specs.Merged.{IsMerged}
@@ -54,6 +54,8 @@ pub record IsAssembled (plan : Plan) (h : List NodeEntry) (nodes : ℕ → List 
   pub whole : (phase : List Job) → EachGives JobGives phase 0 jobs → IsPhase JobGives ByTime phase (made_at nodes places)
   pub begun : (phase : List Job) → EachGives JobBegins phase 0 jobs → IsPhase JobBegins ByTime phase (made_at nodes places)
   pub journals : (n : ℕ) → journal (reverse (made_at nodes places) ++ h) n ≡ reverse (nodes n) ++ journal h n
+  -- they stand in the journals behind what was there
+  pub places_are : places_of (reverse (made_at nodes places) ++ h) ≡ places_of h ++ map (λ (p : ℕ × ℕ). (p.0, length (journal h p.0) + p.1)) places
 
 -- so do those at the merged places
 abbrev pub PhasesAreAssembled : Type 0
