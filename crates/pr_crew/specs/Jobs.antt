@@ -1,12 +1,12 @@
 -- What a job of a phase has made.
-use Rattle.std.specs.Prelude.{ℕ, List, [], ◌∷◌, ◌++◌, ◌≡◌, ◌≤◌, ◌⊎◌, All, AllPairs, Bool, Contains, IsTrue, Result, Ok, Err, eqb, filter, max, nat_eq, cond, reverse, map}
+use Rattle.std.specs.Prelude.{ℕ, List, [], ◌∷◌, ◌++◌, ◌≡◌, ◌⊎◌, All, Contains, IsTrue, Result, Ok, Err, eqb, filter, cond, reverse}
 use Rattle.std.specs.List.Sorted.{IsStrictlyIncreasing}
 use Rattle.pr_flow.specs.declared.flow_end.FlowEnd.{FlowEnd}
 use Rattle.pr_flow.specs.declared.flow_end.FlowEnd.TheVariants as ends
 use Rattle.pr_flow.specs.Flows.{is_at_source, is_at_destination}
 use Rattle.pr_flow.specs.Lies.{IsLied}
 use Rattle.pr_inval.specs.declared.node_fault.NodeFault.{NodeFault}
-use Rattle.pr_inval.specs.Standing.{Remembered, SessionMeaning}
+use Rattle.pr_inval.specs.Standing.{Remembered}
 use Rattle.pr_merge.specs.Holding.{IsSession}
 use Rattle.pr_merge.specs.Phases.{times_of}
 use Rattle.pr_node.specs.Calls.{IsTimeWorn, IsWriteWorn}
@@ -16,7 +16,7 @@ use Rattle.pr_story.specs.Clients.{client_vector, is_of_client}
 use Rattle.pr_story.specs.Commands.{Command}
 use Rattle.pr_story.specs.History.{NodeEntry, Plan, journal}
 use Rattle.pr_story.specs.Lawful.{IsOwnLawful}
-use Rattle.pr_story.specs.Merging.{IsJobRun, IsNoMissing, New, just, plain}
+use Rattle.pr_story.specs.Merging.{IsJobRun, New, just, plain}
 use Rattle.pr_story.specs.Scripts.{ClientJob, FlowJob, Job, JobBegins, JobGives}
 use Rattle.pr_story.specs.Turns.{is_of_stream, stream_time}
 use Rattle.pr_crew.specs.Making.{HasSeen, IsFaultFor, NodePass, node_with}

@@ -5,3 +5,4 @@ pub mod Jobs
 pub mod Lines
 pub mod Making
 pub mod Stories
+pub mod Assembly

@@ -6,6 +6,7 @@ mod client_calls;
 mod client_job;
 mod free_gate;
 mod gate;
+mod law;
 mod looks;
 mod meet_gate;
 mod phase_node;
@@ -16,6 +17,7 @@ mod tests;
 
 pub use free_gate::FreeGate;
 pub use gate::Gate;
+pub use law::phases_are_assembled;
 pub use meet_gate::MeetGate;
 pub use phase_node::PhaseNode;
 pub use story::Story;

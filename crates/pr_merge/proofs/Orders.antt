@@ -27,7 +27,7 @@ one_way x y = numbers x.made.entry.time y.made.entry.time x.made.node y.made.nod
     numbers : (a b m n : ℕ) → (a < b) ⊎ ((a ≡ b) × (m < n)) → (b < a) ⊎ ((b ≡ a) × (n < m)) → ⊥
     numbers a b m n one two = grind arith
 
-pairs_of_map : {X Y : Type 0} (f : X → Y) (R : Y → Y → Type 0) (xs : List X) → AllPairs R (map f xs) → AllPairs (λ x y. R (f x) (f y)) xs
+pub pairs_of_map : {X Y : Type 0} (f : X → Y) (R : Y → Y → Type 0) (xs : List X) → AllPairs R (map f xs) → AllPairs (λ x y. R (f x) (f y)) xs
 pairs_of_map f R xs all i j d less lt =
     subst (λ y. R y (f (get_or xs j d))) (get_or-map f xs i d (f d) (omega (arith, less, lt)))
     (subst (R (get_or (map f xs) i (f d))) (get_or-map f xs j d (f d) lt) (all i j (f d) less (omega (arith, lt, length-map xs f))))

@@ -174,7 +174,7 @@ journal_by : (b : Bool) (x : New) (k : List New) (j g : List Entry) → just k +
 journal_by true x k j g e = ap (λ (l : List Entry). x.made.entry ∷ l) e
 journal_by false x k j g e = e
 
-journal_all : (h : List NodeEntry) (n : ℕ) (t : List New) → just (of_node t n) ++ journal h n ≡ journal (plain t ++ h) n
+pub journal_all : (h : List NodeEntry) (n : ℕ) (t : List New) → just (of_node t n) ++ journal h n ≡ journal (plain t ++ h) n
 journal_all h n [] = refl
 journal_all h n (x ∷ t) = journal_by (nat_eq x.made.node n) x (of_node t n) (journal h n) (journal (plain t ++ h) n) (journal_all h n t)
 
