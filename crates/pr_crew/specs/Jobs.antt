@@ -16,7 +16,7 @@ use Rattle.pr_story.specs.Clients.{client_vector, is_of_client}
 use Rattle.pr_story.specs.Commands.{Command}
 use Rattle.pr_story.specs.History.{NodeEntry, Plan, journal}
 use Rattle.pr_story.specs.Lawful.{IsOwnLawful}
-use Rattle.pr_story.specs.Merging.{IsJobRun, New, just, plain}
+use Rattle.pr_story.specs.Merging.{IsJobRun, IsNoMissing, New, just, plain}
 use Rattle.pr_story.specs.Scripts.{ClientJob, FlowJob, Job, JobBegins, JobGives}
 use Rattle.pr_story.specs.Turns.{is_of_stream, stream_time}
 use Rattle.pr_crew.specs.Making.{HasSeen, IsFaultFor, NodePass, node_with}
