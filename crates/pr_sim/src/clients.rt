@@ -13,7 +13,7 @@ use pr_node::{Done, Seen};
 use pr_vectors::Vector;
 
 impl Engine {
-    /// A client moves to a node.
+    /// A client moves to a node, in constant time.
     pub fn move_client(&mut self, client: u32, node: u32) -> Result<(), NodeFault>
         requires kept { IsKept self.old }
         requires known { node < length self.old.nodes.items }
@@ -31,7 +31,7 @@ impl Engine {
         Ok(())
     }
 
-    /// A client writes to a name, at the node where it stands.
+    /// A client writes to a name, at the node where it stands, in the time of the node's `write`.
     pub fn write(&mut self, client: u32, name: &Name, body: &[u8]) -> Result<(), NodeFault>
         requires kept { IsKept self.old }
         requires client { client < length self.old.homes.items }
@@ -52,7 +52,7 @@ impl Engine {
         Ok(())
     }
 
-    /// A client deletes a name.
+    /// A client deletes a name, in the time of its node's `delete`.
     pub fn delete(&mut self, client: u32, name: &Name) -> Result<(), NodeFault>
         requires kept { IsKept self.old }
         requires client { client < length self.old.homes.items }
@@ -72,7 +72,7 @@ impl Engine {
         Ok(())
     }
 
-    /// A client reads a name.
+    /// A client reads a name, in the time of its node's `read`.
     pub fn read(&mut self, client: u32, name: &Name) -> Result<(), NodeFault>
         requires kept { IsKept self.old }
         requires client { client < length self.old.homes.items }

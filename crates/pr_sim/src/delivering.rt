@@ -15,7 +15,8 @@ use crate::slots::{give, route, take};
 use pr_inval::{Msg, NodeFault, Taken};
 
 impl Engine {
-    /// Delivers the stream's message of this number, through its bytes, however often it was delivered.
+    /// Delivers the stream's message of this number, through its bytes, however often it was delivered. It finds the
+    /// message in constant time, encodes and decodes it, and takes the time of the node's `accept`.
     pub fn deliver(&mut self, stream: u32, number: u64) -> Result<(), NodeFault>
         requires kept { IsKept self.old }
         requires stream { stream < length self.old.sessions.items }
@@ -49,7 +50,7 @@ impl Engine {
         Ok(())
     }
 
-    /// Takes a message of the stream that was sent, at its destination.
+    /// Takes a message of the stream that was sent, at its destination, in the time of the node's `accept`.
     pub fn take_in(&mut self, stream: u32, msg: Msg) -> Result<Taken, NodeFault>
         requires kept { IsKept self.old }
         requires stream { stream < length self.old.sessions.items }

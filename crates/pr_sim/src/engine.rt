@@ -39,14 +39,15 @@ pub struct Engine {
 }
 
 impl Engine {
-    /// The node of each entry, and the entry's place in that node's journal, in the order in which they were made.
+    /// The node of each entry, and the entry's place in that node's journal, in the order in which they were made. It
+    /// takes constant time.
     pub fn history(&self) -> &[(u32, usize)]
         ensures { (d : Declared) (h : List NodeEntry) → Tells d h self.now → result.now ≡ places_of h }
     {
         self.history.as_slice()
     }
 
-    /// A node's journal, or None for a number that no node has.
+    /// A node's journal, or None for a number that no node has, in constant time.
     pub fn journal(&self, node: u32) -> Option<&Journal>
         ensures { (d : Declared) (h : List NodeEntry) → Tells d h self.now → MatchOption result (d.counts.nodes ≤ node) (λ j. reverse j.now.items ≡ journal h node) }
     {
@@ -56,7 +57,7 @@ impl Engine {
         }
     }
 
-    /// The node of the entry at this place of the history.
+    /// The node of the entry at this place of the history, in constant time.
     pub fn node_of(&self, at: usize) -> u32
         requires { (d : Declared) × (h : List NodeEntry) × Tells d h self.now × (at < length h) }
         ensures { (d : Declared) (h : List NodeEntry) (e : NodeEntry) → Tells d h self.now → at < length h → result ≡ (slice_index_or (reverse h) at e).node }
@@ -75,7 +76,7 @@ impl Engine {
     }
 }
 
-/// The node that stands there.
+/// The node that stands there, in constant time.
 pub fn node_at(nodes: &Vec<Option<Node>>, node: u32) -> &Node
     requires { (m : Stored) × (slice_index_or nodes.now.items node None ≡ Some m) }
     ensures { slice_index_or nodes.now.items node None ≡ Some result.now }

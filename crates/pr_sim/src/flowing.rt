@@ -18,7 +18,8 @@ use pr_wires::{Wire, Wires};
 
 impl Engine {
     /// Makes so many turns of an attached stream over a wire that is connected for them. There are fewer only where one
-    /// of them is stale, or the flow goes down; where no wire is given it goes down at once.
+    /// of them is stale, or the flow goes down; where no wire is given it goes down at once. Each message is encoded,
+    /// carried and decoded once, besides the nodes' calls.
     pub fn flow<W: Wires>(
         &mut self,
         stream: u32,

@@ -10,7 +10,7 @@ use pr_inval::NodeFault;
 use pr_names::Name;
 
 impl Engine {
-    /// Truncates a node's log.
+    /// Truncates a node's log, in the time of the node's `cut`.
     pub fn cut(&mut self, node: u32) -> Result<(), NodeFault>
         requires kept { IsKept self.old }
         requires known { node < length self.old.nodes.items }
@@ -26,7 +26,7 @@ impl Engine {
         Ok(())
     }
 
-    /// Drops a node's bodies of a name.
+    /// Drops a node's bodies of a name, in the time of the node's `drop_body`.
     pub fn drop_body(&mut self, node: u32, name: &Name) -> Result<(), NodeFault>
         requires kept { IsKept self.old }
         requires known { node < length self.old.nodes.items }
@@ -42,7 +42,7 @@ impl Engine {
         Ok(())
     }
 
-    /// Finds the conflicts of a name at a node.
+    /// Finds the conflicts of a name at a node, in the time of the node's `conflicts`.
     pub fn conflicts(&mut self, node: u32, name: &Name) -> Result<(), NodeFault>
         requires kept { IsKept self.old }
         requires known { node < length self.old.nodes.items }
@@ -58,7 +58,7 @@ impl Engine {
         Ok(())
     }
 
-    /// Tells a node's state.
+    /// Tells a node's state, in the time of the node's `state`.
     pub fn state(&mut self, node: u32) -> Result<(), NodeFault>
         requires kept { IsKept self.old }
         requires known { node < length self.old.nodes.items }

@@ -15,7 +15,7 @@ use pr_inval::{Msg, NodeFault, Session, Step};
 use pr_wire::through_bytes;
 
 impl Engine {
-    /// AttachesAnew each attached stream anew, in order of declaration, and then lets each of them come to rest, round by
+    /// Attaches each attached stream anew, in order of declaration, and then lets each of them come to rest, round by
     /// round, up to a round in which nothing was sent. There are at most as many rounds as the streams have clocks and
     /// bodies to send, and each takes a turn of each attached stream besides its messages. Memory is taken for the
     /// encoding of one message at a time, besides what the nodes keep.
@@ -38,7 +38,7 @@ impl Engine {
         Ok(())
     }
 
-    // AttachesAnew the stream at this place anew, if it is attached.
+    // Attaches the stream at this place anew, if it is attached.
     fn attach_at(&mut self, at: usize) -> Result<(), NodeFault>
         requires kept { IsKept self.old }
         requires within { at < length self.old.sessions.items }
@@ -82,7 +82,7 @@ impl Engine {
         }
     }
 
-    // MakesPart turns of an attached stream up to an idle one. The answer is whether anything was sent.
+    // Makes turns of an attached stream up to an idle one. The answer is whether anything was sent.
     fn rest(&mut self, stream: u32) -> Result<bool, NodeFault>
         requires settling { IsSettling self.old }
         requires stream { stream < length self.old.sessions.items }
@@ -96,7 +96,7 @@ impl Engine {
         Ok(sent)
     }
 
-    // MakesPart a turn of an attached stream, whose message is taken at once; where the turn is stale, a checkpoint is sent
+    // Makes a turn of an attached stream, whose message is taken at once; where the turn is stale, a checkpoint is sent
     // and taken. The answer is whether anything was sent.
     fn advance(&mut self, stream: u32) -> Result<bool, NodeFault>
         requires settling { IsSettling self.old }

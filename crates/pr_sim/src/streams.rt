@@ -10,7 +10,7 @@ use crate::slots::{give, note, note_step, room_for, route, take};
 use pr_inval::{Msg, NodeFault, Step};
 
 impl Engine {
-    /// Attaches a stream at its destination.
+    /// Attaches a stream at its destination, in the time of the node's `attach`.
     pub fn attach(&mut self, stream: u32) -> Result<(), NodeFault>
         requires kept { IsKept self.old }
         requires stream { stream < length self.old.sessions.items }
@@ -29,7 +29,7 @@ impl Engine {
         Ok(())
     }
 
-    /// Makes a stream not attached, which gives no event.
+    /// Makes a stream not attached, which gives no event, in constant time.
     pub fn detach(&mut self, stream: u32)
         requires kept { IsKept self.old }
         requires stream { stream < length self.old.sessions.items }
@@ -40,7 +40,7 @@ impl Engine {
         give(&mut self.sessions, stream, session);
     }
 
-    /// Makes a turn of an attached stream, at its source.
+    /// Makes a turn of an attached stream, at its source, in the time of the node's `turn`.
     pub fn turn(&mut self, stream: u32) -> Result<Step, NodeFault>
         requires kept { IsKept self.old }
         requires stream { stream < length self.old.sessions.items }
@@ -62,7 +62,7 @@ impl Engine {
         Ok(step)
     }
 
-    /// Makes a turn of an attached stream, whose message may then be delivered by its number.
+    /// Makes a turn of an attached stream, whose message may then be delivered by its number, in the time of `turn`.
     pub fn send(&mut self, stream: u32) -> Result<(), NodeFault>
         requires kept { IsKept self.old }
         requires stream { stream < length self.old.sessions.items }
@@ -73,7 +73,7 @@ impl Engine {
         Ok(())
     }
 
-    /// Makes a checkpoint of an attached stream, at its source.
+    /// Makes a checkpoint of an attached stream, at its source, in the time of the node's `checkpoint`.
     pub fn snapshot(&mut self, stream: u32) -> Result<Msg, NodeFault>
         requires kept { IsKept self.old }
         requires stream { stream < length self.old.sessions.items }
@@ -95,7 +95,7 @@ impl Engine {
         Ok(msg)
     }
 
-    /// Makes a checkpoint of an attached stream, which may then be delivered by its number.
+    /// Makes a checkpoint of an attached stream, which may then be delivered by its number, in the time of `snapshot`.
     pub fn checkpoint(&mut self, stream: u32) -> Result<(), NodeFault>
         requires kept { IsKept self.old }
         requires stream { stream < length self.old.sessions.items }
