@@ -1,7 +1,7 @@
 -- Entries that nodes made meanwhile come into the history one by one.
 use Rattle.std.proofs.Common.{◌≡◌, ◌⊎◌, inl, inr, ℕ, zero, suc, ◌+◌, ◌-◌, ◌<◌, ◌≤◌, List, [], ◌∷◌, ◌++◌, refl, sym, ◌∙◌, ap, subst, length, get_or, set, take, reverse, cond, arith}
 use Rattle.std.specs.Prelude.{Some, None, Option, Bool, false}
-use Rattle.std.proofs.lemmas.List.{append-nil, append_assoc, append_cancel_left, get_or-append-add, get_or_append_left, get_or_default, length-append, length-reverse, reverse-append, reverse-reverse, take_all}
+use Rattle.std.proofs.lemmas.List.{append-nil, append_assoc, append_cancel_left, get_or-append-add, get_or_default, length-append, length-reverse, reverse-append, reverse-reverse, take_all}
 use Rattle.std.proofs.lemmas.Bool.{cases_eq}
 use Rattle.pr_merge.specs.Holding.{AddsPlaces, HeldState}
 use Rattle.pr_node.specs.Stored.{Stored, means}
@@ -16,7 +16,7 @@ use Rattle.pr_story.specs.declared.reply.Reply.{Reply}
 use Rattle.pr_story.specs.Clients.{client_vector, is_of_client, node_after, seen_after}
 use Rattle.pr_story.specs.History.{NodeEntry, Plan, journal}
 use Rattle.pr_story.specs.Places.{places_of}
-use Rattle.pr_sim.specs.Holding.{HasRoomFor, IsNext, IsSentOfStream, KeepsRecords, NamesClient, held_of, journal_of}
+use Rattle.pr_sim.specs.Holding.{HasRoomFor, IsNext, IsSentOfStream, KeepsRecords, NamesClient, journal_of}
 use Rattle.pr_sim.specs.Places.{HasNoted}
 use Rattle.pr_sim.specs.Running.{AreClients, AreRoutes, AreSent}
 use Rattle.pr_story.proofs.OfStreams.{not_equal, same_is}

@@ -22,6 +22,7 @@ pub mod Resting
 pub mod Settled
 pub mod StillKept
 pub mod Flows
+pub mod GoesDown
 pub mod Turns
 pub mod Appending
 pub mod Represented

@@ -1,7 +1,6 @@
 -- An engine that runs is one that represents a history.
-use Rattle.std.proofs.Common.{◌≡◌, ℕ, ◌<◌, ◌≤◌, List, length, get_or}
-use Rattle.std.specs.Prelude.{Bool, Some, None}
-use Rattle.pr_node.specs.Stored.{Stored, means}
+use Rattle.std.proofs.Common.{ℕ, List}
+use Rattle.std.specs.Prelude.{Bool}
 use Rattle.pr_story.specs.Counts.{Declared}
 use Rattle.pr_story.specs.History.{NodeEntry}
 use Rattle.pr_sim.specs.Holding.{CanGoOn, RepresentsIn}

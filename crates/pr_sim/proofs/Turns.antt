@@ -1,6 +1,6 @@
 -- The turns of a flow together, and what a step answers of them.
 use Rattle.std.proofs.Common.{◌≡◌, ℕ, ◌+◌, ◌-◌, ◌≤◌, List, [], ◌∷◌, ◌++◌, Result, Ok, Err, IsErrAnd, inl, inr, refl, sym, ◌∙◌, ap, subst, map, reverse, arith}
-use Rattle.std.specs.Prelude.{Bool, None, All, false}
+use Rattle.std.specs.Prelude.{Bool, None, false}
 use Rattle.std.proofs.lemmas.List.{append-nil, append_assoc, reverse-append}
 use Rattle.std.proofs.lemmas.List.Elements.{All-nil}
 use Rattle.std.proofs.lemmas.Result.{err_from_is_err_and}

@@ -1,5 +1,5 @@
 -- A flow in one thread.
-use Rattle.std.specs.Prelude.{ℕ, List, [], ◌∷◌, ◌++◌, ◌≡◌, ◌<◌, ◌≤◌, ◌+◌, ◌^◌, Bool, IsTrue, Option, None, Some, Result, Ok, Err, reverse}
+use Rattle.std.specs.Prelude.{ℕ, List, [], ◌∷◌, ◌++◌, ◌≡◌, ◌<◌, ◌≤◌, ◌+◌, ◌^◌, Bool, true, ◌&&◌, IsTrue, Option, None, Some, Result, Ok, Err, reverse}
 use Rattle.pr_inval.specs.declared.msg.Msg.{Msg}
 use Rattle.pr_inval.specs.declared.node_fault.NodeFault.{NodeFault}
 use Rattle.pr_flow.specs.declared.flow_end.FlowEnd.{FlowEnd}
@@ -10,10 +10,11 @@ use Rattle.pr_flow.specs.Ending.{EndsByWire}
 use Rattle.pr_flow.specs.Lies.{IsLied, IsLieOf}
 use Rattle.pr_story.specs.declared.cause.Cause.{Cause}
 use Rattle.pr_story.specs.declared.cause.Cause.TheVariants.{Gap}
+use Rattle.pr_story.specs.declared.cause.Cause.TheVariants as causes
 use Rattle.pr_story.specs.declared.event.Event.{Event}
 use Rattle.pr_story.specs.declared.event.Event.TheVariants.{Down, Sent}
-use Rattle.pr_story.specs.History.{NodeEntry, Plan, WasSent}
-use Rattle.pr_story.specs.Lawful.{HasCause}
+use Rattle.pr_story.specs.History.{NodeEntry, Plan, WasSent, journal}
+use Rattle.pr_story.specs.Lawful.{HasCause, is_after_gap}
 use Rattle.pr_story.specs.Scripts.{AreTurns, Flow, JobAfterJob, LineBegins}
 use Rattle.pr_story.specs.Turns.{IsAttached}
 use Rattle.pr_wires.specs.Calls.{WireState}
@@ -27,6 +28,16 @@ use Rattle.pr_sim.specs.declared.engine.Engine.{Engine}
 -- the stream's destination may note that its flow goes down for this cause
 abbrev pub CanGoDown : Plan → List NodeEntry → ℕ → Cause → Type 0
 CanGoDown plan h s cause = HasCause h (plan.stream s).destination (Down s cause)
+
+-- the cause may be told, where the destination's last event of the stream is a gap or is none
+abbrev pub may_go_down : Cause → Bool → Bool
+may_go_down Gap after = after
+may_go_down causes.Failed after = true
+may_go_down causes.Ended after = true
+
+-- whether the flow of stream s may go down for it, where these streams are attached
+abbrev pub goes_down : Declared → (ℕ → Bool) → List NodeEntry → ℕ → Cause → Bool
+goes_down d attached h s cause = attached s && may_go_down cause (is_after_gap (journal h (d.plan.stream s).destination) s)
 
 abbrev pub IsDownMade : ℕ → Cause → Unit {0} → NodeEntry → Type 0
 IsDownMade s cause done made = made.entry.event ≡ Down s cause

@@ -128,8 +128,8 @@ impl Engine {
         }
     }
 
-    // Notes at a stream's destination that its flow went down.
-    fn go_down(&mut self, stream: u32, cause: Cause) -> Result<(), NodeFault>
+    /// Notes at a stream's destination that its flow went down, where `can_go_down` says that it may.
+    pub fn go_down(&mut self, stream: u32, cause: Cause) -> Result<(), NodeFault>
         requires kept { IsKept self.old }
         requires stream { stream < length self.old.sessions.items }
         ensures { ForEachRun self.old (λ d attached h. CanGoDown d.plan h stream cause → MakesOne d attached h (IsDownMade stream cause) self.new result) }

@@ -3,6 +3,7 @@
 
 mod clients;
 mod delivering;
+mod downs;
 mod engine;
 mod flowing;
 mod holding;

@@ -1,6 +1,5 @@
 use Rattle.pr_sim.proofs.Appending.{kept_then, names_client, next_entry, sends_of_stream}
-use Rattle.std.proofs.Common.{◌≡◌, ◌∙◌, length, refl, sym, subst}
-use Rattle.pr_story.specs.declared.event.Event.{Event}
+use Rattle.std.proofs.Common.{◌∙◌, length, refl, sym, subst}
 use Rattle.pr_story.specs.declared.entry.Entry.{Entry}
 use Rattle.pr_sim.specs.Holding.{IsSentOfStream, NamesClient}
 use Rattle.pr_sim.proofs.engine.Engine.append_one.Goals as goal

@@ -1,4 +1,4 @@
-use Rattle.std.proofs.Common.{◌≡◌, ◌<◌, ◌∙◌, ℕ, length, sym, ap, subst}
+use Rattle.std.proofs.Common.{◌<◌, ◌∙◌, ℕ, length, sym, ap, subst}
 use Rattle.pr_sim.specs.declared.engine.Route.{Route}
 use Rattle.pr_sim.proofs.holding.EngineHeld.route.Goals as goal
 

@@ -1,0 +1,9 @@
+use Rattle.std.proofs.Common.{◌≡◌, ◌≤◌, length, reverse, take}
+use Rattle.pr_story.specs.Lawful.{is_after_gap}
+use Rattle.pr_sim.proofs.downs.is_after_gap.Given as goal
+
+abbrev pub invariant-loop-left : goal.invariant-loop-left
+invariant-loop-left l = (l.left ≤ length l.entries) × (is_after_gap (reverse (take l.left l.entries)) l.stream ≡ is_after_gap (reverse l.entries) l.stream)
+
+abbrev pub decreases-loop-left : goal.decreases-loop-left
+decreases-loop-left l = l.left
