@@ -5,3 +5,5 @@ pub mod MadeMore
 pub mod Adding
 pub mod Sofar
 pub mod Through
+pub mod FlowMore
+pub mod FlowSteps

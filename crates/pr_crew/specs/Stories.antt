@@ -1,5 +1,5 @@
 -- What the list of a node's cell tells: the node as the phase began, and each entry that was made since then.
-use Rattle.std.specs.Prelude.{ℕ, List, [], ◌∷◌, map, take, drop}
+use Rattle.std.specs.Prelude.{ℕ, List, ◌∷◌, map, take, drop}
 use Rattle.pr_node.specs.Stored.{Stored}
 use Rattle.pr_story.specs.declared.entry.Entry.{Entry}
 use Rattle.pr_crew.specs.declared.story.Story.{Story}
