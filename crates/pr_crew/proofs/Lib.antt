@@ -7,3 +7,4 @@ pub mod Sofar
 pub mod Through
 pub mod FlowMore
 pub mod FlowSteps
+pub mod FlowWalk
