@@ -4,4 +4,4 @@ mod Takes
 mod Puts
 mod Seats
 mod Ends
-mod Pair
+pub mod Pair

@@ -1,5 +1,5 @@
 -- What a call of a client adds, with what the client has seen then.
-use Rattle.std.proofs.Common.{◌≡◌, ℕ, List, [], ◌∷◌, ap, sym, ◌∙◌}
+use Rattle.std.proofs.Common.{◌≡◌, ℕ, List, [], ap, ◌∙◌}
 use Rattle.std.specs.Prelude.{Bool, false}
 use Rattle.pr_inval.specs.Standing.{Standing}
 use Rattle.pr_node.specs.Calls.{Adds, IsDone, IsSeen, seen_after_done, seen_after_read}

@@ -1,13 +1,11 @@
 -- What one call at the cell of a node makes.
-use Rattle.std.proofs.Common.{◌≡◌, ◌≢◌, ◌⊎◌, ℕ, ◌+◌, ◌<◌, ◌≤◌, List, [], ◌∷◌, ◌++◌, length, All, Contains, Result, Ok, Err, IfOk, IfErr, refl, sym, ap, ◌∙◌, subst, drop, take, arith, append_assoc, append-nil}
-use Rattle.std.specs.Prelude.{false, reverse}
+use Rattle.std.proofs.Common.{◌≡◌, ℕ, ◌+◌, ◌≤◌, List, [], ◌∷◌, ◌++◌, length, All, Contains, Result, Ok, Err, IfOk, IfErr, sym, ap, ◌∙◌, subst, drop, take, arith, append-nil}
+use Rattle.std.specs.Prelude.{reverse}
 use mathlib.Core.List.{head-eq_of_cons-eq, tail-eq_of_cons-eq}
 use Rattle.std.proofs.lemmas.List.{reverse-append, reverse-reverse, take-append-drop, length-append, take-append-le, drop-append-le}
 use Rattle.std.proofs.lemmas.List.Elements.{All-nil, All-cons, All-head, All-tail}
-use Rattle.pr_cell.specs.declared.cell.Cell.{Cell}
-use Rattle.pr_cell.specs.declared.pass.Pass.{Pass}
 use Rattle.pr_cell.specs.declared.turn.Turn.{Turn}
-use Rattle.pr_cell.specs.Passes.{Grows, IsPassOf, IsTurnOf, held, opening_of, seen, since}
+use Rattle.pr_cell.specs.Passes.{Grows, IsPassOf, IsTurnOf, held, seen, since}
 use Rattle.pr_inval.specs.declared.node_fault.NodeFault.{NodeFault}
 use Rattle.pr_inval.specs.declared.node_fault.NodeFault.TheVariants.{NoMemory, Worn}
 use Rattle.pr_inval.specs.Standing.{Standing}
@@ -22,7 +20,7 @@ use Rattle.pr_crew.specs.declared.story.Story.{Story}
 use Rattle.pr_crew.specs.declared.story.Story.TheVariants.{Opened, Made}
 use Rattle.pr_crew.specs.Making.{AreOthers, HasFailed, HasMade, HasSeen, IsCellOf, IsFaultFor, IsSameCaller, Makes, NodeCell, NodePass, journal_with, node_with}
 use Rattle.pr_crew.specs.Stories.{caller_of, made, stories, stories_of}
-use Rattle.pr_crew.proofs.Entries.{made_append, made_others, made_parts, same_made, same_opening}
+use Rattle.pr_crew.proofs.Entries.{made_append, made_others, made_parts, same_opening}
 
 -- ---- the node
 

@@ -7,3 +7,6 @@ pub mod Sofar
 pub mod Through
 pub mod Placed
 pub mod Assembly
+pub mod FlowMore
+pub mod FlowSteps
+pub mod FlowWalk

@@ -1,6 +1,6 @@
 -- What a job knows of its pass, once it has made one entry more, and once others have.
-use Rattle.std.proofs.Common.{◌≡◌, ◌≢◌, ◌⊎◌, ℕ, List, [], ◌∷◌, ◌++◌, All, Contains, inl, inr, refl, sym, ap, ◌∙◌, subst, filter, eqb, cond, append_assoc, append-nil}
-use Rattle.std.specs.Prelude.{Bool, true, reverse}
+use Rattle.std.proofs.Common.{◌≡◌, ◌≢◌, ◌⊎◌, ℕ, List, [], ◌∷◌, ◌++◌, Contains, inl, inr, refl, sym, ap, ◌∙◌, subst, eqb, cond, append-nil}
+use Rattle.std.specs.Prelude.{Bool}
 use mathlib.Core.List.{head-eq_of_cons-eq, tail-eq_of_cons-eq}
 use Rattle.std.proofs.lemmas.List.Elements.{All-contains, Contains-append_left, Contains-append_right, filter-append}
 use Rattle.std.proofs.lemmas.Bool.Decides.{Decides-eqb}
@@ -12,8 +12,7 @@ use Rattle.pr_story.specs.History.{NodeEntry, Plan}
 use Rattle.pr_story.specs.Merging.{New, just}
 use Rattle.pr_story.proofs.Sorted.{is_first}
 use Rattle.pr_crew.specs.Jobs.{IsNew, MadeAt, own}
-use Rattle.pr_crew.specs.Making.{AreOthers, HasFailed, HasMade, HasSeen, IsSameCaller, NodePass}
-use Rattle.pr_crew.specs.Stories.{made}
+use Rattle.pr_crew.specs.Making.{AreOthers, HasFailed, HasMade, NodePass}
 use Rattle.pr_crew.proofs.Entries.{same_made}
 
 just_append : (xs ys : List New) → just (xs ++ ys) ≡ just xs ++ just ys
@@ -59,8 +58,8 @@ module _ (plan : Plan) (h : List NodeEntry) (n k : ℕ) where
   each_one all xs f x new each before e after is by = elim (place all (f ∷ []) before after e is) [
     | inl m ↦ let y = each before e m.0 m.1 by in (y.0, Contains-append_left xs (x ∷ []) y.0 y.1, y.2)
     | inr m ↦ let o = only m.0 after f e m.1 in
-      let b : all ≡ before = sym (append-nil all) ∙ ap (λ (l : List Entry). all ++ l) (sym o.0) ∙ sym m.2 in
-      (x, Contains-append_right xs (x ∷ []) x (is_first x []), subst (λ (z : List Entry × Entry). IsNew plan h n z.0 z.1 x) (λ i. (b i, o.1 i)) new)
+        let b : all ≡ before = sym (append-nil all) ∙ ap (λ (l : List Entry). all ++ l) (sym o.0) ∙ sym m.2 in
+        (x, Contains-append_right xs (x ∷ []) x (is_first x []), subst (λ (z : List Entry × Entry). IsNew plan h n z.0 z.1 x) (λ i. (b i, o.1 i)) new)
   ]
 
 -- others' entries change nothing

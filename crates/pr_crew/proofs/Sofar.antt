@@ -1,5 +1,5 @@
 -- A client's job, line by line.
-use Rattle.std.proofs.Common.{◌≡◌, ◌⊎◌, ℕ, ◌<◌, ◌≤◌, ◌+◌, List, [], ◌∷◌, ◌++◌, All, Result, Ok, Err, inl, inr, refl, sym, ap, ◌∙◌, subst, cond, length, get_or, drop, arith, append_assoc, append-nil}
+use Rattle.std.proofs.Common.{◌≡◌, ℕ, ◌<◌, ◌≤◌, ◌+◌, List, [], ◌∷◌, ◌++◌, Result, Ok, Err, refl, sym, ap, ◌∙◌, subst, cond, length, get_or, drop, append_assoc, append-nil}
 use Rattle.std.specs.Prelude.{Bool, true, false, IsTrue, nat_eq, reverse}
 use Rattle.std.specs.List.{flat_map}
 use Rattle.std.proofs.lemmas.List.{drop_all, drop_more, reverse-append}
@@ -8,7 +8,7 @@ use Rattle.std.proofs.lemmas.Bool.Decides.{Decides-eqb}
 use Rattle.pr_inval.specs.declared.node_fault.NodeFault.{NodeFault}
 use Rattle.pr_inval.specs.declared.node_fault.NodeFault.TheVariants.{NoMemory, Worn}
 use Rattle.pr_inval.specs.Standing.{Standing}
-use Rattle.pr_node.specs.Calls.{IsTimeWorn, IsWriteWorn}
+use Rattle.pr_node.specs.Calls.{IsWriteWorn}
 use Rattle.pr_node.specs.Stored.{NodeMeaning}
 use Rattle.pr_node.proofs.OfClients.{IsOfClient, done_is, seen_is_of}
 use Rattle.pr_script.specs.declared.command.Command.{Command as Said}
@@ -16,19 +16,18 @@ use Rattle.pr_script.specs.declared.command.Command.TheVariants as commands
 use Rattle.pr_script.specs.declared.owner.Owner.TheVariants as owner
 use Rattle.pr_script.specs.Steps.{Numbered, owner_of}
 use Rattle.pr_story.specs.declared.entry.Entry.{Entry}
-use Rattle.pr_story.specs.declared.event.Event.{Event}
-use Rattle.pr_story.specs.Clients.{client_node, client_vector, is_of_client, is_with_needs, node_after, seen_after}
+use Rattle.pr_story.specs.Clients.{client_node, client_vector, is_of_client, seen_after}
 use Rattle.pr_story.specs.Commands.{Command, ToRead, ToWrite}
 use Rattle.pr_story.specs.History.{NodeEntry, Plan}
 use Rattle.pr_story.specs.Merging.{IsJobRun, New, plain}
-use Rattle.pr_story.specs.Scripts.{AreOfCommands, ClientJob, JobBegins, JobGives}
+use Rattle.pr_story.specs.Scripts.{AreOfCommands, JobGives}
 use Rattle.pr_story.specs.Turns.{is_of_stream, is_with_session}
 use Rattle.pr_story.proofs.Begun.{nothing_begins}
 use Rattle.pr_story.proofs.Merging.{session_of}
 use Rattle.pr_text.specs.Steps.{is_owned_by, job_of, line_of, lines_by, single_of}
 use Rattle.pr_crew.specs.Asking.{IsLineOf}
 use Rattle.pr_crew.specs.Clients.{CallsLine, EndsLine, EndsLines, IsSofar, LeadsTo}
-use Rattle.pr_crew.specs.Jobs.{ClientDone, ClientFailed, IsRun, IsWornAt, MadeAt}
+use Rattle.pr_crew.specs.Jobs.{ClientDone, ClientFailed, IsWornAt}
 use Rattle.pr_crew.specs.Making.{HasFailed, HasMade, IsFaultFor, Makes, NodePass, node_with}
 use Rattle.pr_crew.specs.Acting.{nowhere}
 use Rattle.pr_crew.proofs.MadeMore.{made_more, made_still}
@@ -68,10 +67,10 @@ of_line client n c needs after e mine is = absurd is
 
 -- ---- one entry more
 
-news : (xs : List New) (x : New) → plain (reverse (xs ++ x ∷ [])) ≡ x.made ∷ plain (reverse xs)
+pub news : (xs : List New) (x : New) → plain (reverse (xs ++ x ∷ [])) ≡ x.made ∷ plain (reverse xs)
 news xs x = ap plain (reverse-append xs (x ∷ []))
 
-plain_append : (xs ys : List New) → plain (xs ++ ys) ≡ plain xs ++ plain ys
+pub plain_append : (xs ys : List New) → plain (xs ++ ys) ≡ plain xs ++ plain ys
 plain_append [] ys = refl
 plain_append (x ∷ xs) ys = ap (λ (es : List NodeEntry). x.made ∷ es) (plain_append xs ys)
 

@@ -1,6 +1,6 @@
 -- The calls of a flow at a node's cell, as its turns see them.
-use Rattle.std.proofs.Common.{◌≡◌, ◌⊎◌, ℕ, ◌+◌, ◌<◌, ◌≤◌, List, [], ◌∷◌, ◌++◌, Result, Ok, Err, IfOk, OnErr, inl, inr, refl, sym, ap, ◌∙◌, subst, max, arith}
-use Rattle.std.specs.Prelude.{Bool, true, IsTrue, Option, Some, None}
+use Rattle.std.proofs.Common.{◌≡◌, ℕ, ◌≤◌, List, [], ◌∷◌, ◌++◌, Result, Ok, Err, IfOk, OnErr, inl, refl, sym, ap, ◌∙◌, subst, arith}
+use Rattle.std.specs.Prelude.{Bool, true, IsTrue, Option, Some}
 use Rattle.pr_cell.specs.Passes.{since}
 use Rattle.pr_flow.specs.Calls.{AcceptMakes, Call, DownMakes, IsSending, TurnMakes, entry_of, fault_of}
 use Rattle.pr_inval.specs.declared.msg.Msg.{Msg}

@@ -6,7 +6,6 @@ use Rattle.pr_inval.specs.declared.node_fault.NodeFault.{NodeFault}
 use Rattle.pr_inval.specs.declared.node_fault.NodeFault.TheVariants.{NoMemory}
 use Rattle.pr_inval.specs.Standing.{Standing}
 use Rattle.pr_node.specs.Calls.{IsTimeWorn}
-use Rattle.pr_node.specs.Stored.{NodeMeaning}
 use Rattle.pr_story.specs.declared.entry.Entry.{Entry}
 use Rattle.pr_story.specs.History.{NodeEntry, Plan}
 use Rattle.pr_crew.specs.declared.story.Story.{Story}

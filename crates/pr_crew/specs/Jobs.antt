@@ -13,17 +13,36 @@ use Rattle.pr_node.specs.Calls.{IsTimeWorn, IsWriteWorn}
 use Rattle.pr_node.specs.Stored.{NodeMeaning}
 use Rattle.pr_story.specs.declared.entry.Entry.{Entry}
 use Rattle.pr_story.specs.Clients.{client_vector, is_of_client}
-use Rattle.pr_story.specs.Commands.{Command}
 use Rattle.pr_story.specs.History.{NodeEntry, Plan, journal}
 use Rattle.pr_story.specs.Lawful.{IsOwnLawful}
 use Rattle.pr_story.specs.Merging.{IsJobRun, IsNoMissing, New, just, plain}
-use Rattle.pr_story.specs.Scripts.{ClientJob, FlowJob, Job, JobBegins, JobGives}
+use Rattle.pr_story.specs.Scripts.{FlowJob, Job, JobBegins, JobGives}
 use Rattle.pr_story.specs.Turns.{is_of_stream, stream_time}
 use Rattle.pr_crew.specs.Making.{HasSeen, IsFaultFor, NodePass, node_with}
 
 -- the caller's own entries among these
 abbrev pub own : ℕ → List Entry → List Entry
 own k es = filter (λ e. eqb e.caller k) es
+
+-- the job was given where it went its way, and else it has begun
+abbrev pub Gives : {X E : Type 0} → Job → List New → Result X E → Type 0
+Gives job xs (Ok x) = JobGives job (plain xs)
+Gives job xs (Err fault) = JobBegins job (plain xs)
+
+-- those of them that were made at the stream's source, and at its destination
+abbrev pub at_source : List New → List New
+at_source [] = []
+at_source (x ∷ xs) = cond (is_at_source x.made.entry.event) (x ∷ at_source xs) (at_source xs)
+
+abbrev pub at_destination : List New → List New
+at_destination [] = []
+at_destination (x ∷ xs) = cond (is_at_destination x.made.entry.event) (x ∷ at_destination xs) (at_destination xs)
+
+-- the flow went its way, and gave all that its turns give; or it was cut off
+abbrev pub FlowGives : Job → List New → Result FlowEnd NodeFault → Type 0
+FlowGives job xs (Ok (ends.Lied number sent got)) = JobBegins job (plain xs)
+FlowGives job xs (Ok end) = JobGives job (plain xs)
+FlowGives job xs (Err fault) = JobBegins job (plain xs)
 
 module _ (plan : Plan) (h : List NodeEntry) where
   -- the entry stands behind these of the node as x says, and is lawful there
@@ -48,11 +67,6 @@ module _ (plan : Plan) (h : List NodeEntry) where
     pub job : All (λ x. x.job ≡ k) xs
     pub run : IsJobRun plan h (reverse xs)
 
-  -- the job was given where it went its way, and else it has begun
-  abbrev pub Gives : {X E : Type 0} → Job → List New → Result X E → Type 0
-  Gives job xs (Ok x) = JobGives job (plain xs)
-  Gives job xs (Err fault) = JobBegins job (plain xs)
-
   -- ---- a client's job
 
   -- a client's call was refused for want of memory, or as its node is worn
@@ -69,21 +83,6 @@ module _ (plan : Plan) (h : List NodeEntry) where
     pub failed : ClientFailed n (client_vector (plain (reverse xs) ++ h) client) p end
 
   -- ---- a flow's job
-
-  -- those of them that were made at the stream's source, and at its destination
-  abbrev pub at_source : List New → List New
-  at_source [] = []
-  at_source (x ∷ xs) = cond (is_at_source x.made.entry.event) (x ∷ at_source xs) (at_source xs)
-
-  abbrev pub at_destination : List New → List New
-  at_destination [] = []
-  at_destination (x ∷ xs) = cond (is_at_destination x.made.entry.event) (x ∷ at_destination xs) (at_destination xs)
-
-  -- the flow went its way, and gave all that its turns give; or it was cut off
-  abbrev pub FlowGives : Job → List New → Result FlowEnd NodeFault → Type 0
-  FlowGives job xs (Ok (ends.Lied number sent got)) = JobBegins job (plain xs)
-  FlowGives job xs (Ok end) = JobGives job (plain xs)
-  FlowGives job xs (Err fault) = JobBegins job (plain xs)
 
   abbrev pub FlowLied : ℕ → List New → Result FlowEnd NodeFault → Type 0
   FlowLied s xs (Ok (ends.Lied number sent got)) = IsLied (plain (reverse xs) ++ h) s number sent got

@@ -4,6 +4,7 @@
 mod cell_side;
 mod client_calls;
 mod client_job;
+mod flow_job;
 mod free_gate;
 mod gate;
 mod law;

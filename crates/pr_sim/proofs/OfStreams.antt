@@ -51,7 +51,7 @@ pub goes_on : (plan : Plan) (e : NodeEntry) (h : List NodeEntry) (s : ℕ) (old 
     → IsOfStream s e.entry.event → e.entry.time ≡ max (last_time (journal h e.node)) (stream_time h s) + 1 → (IsTrue attached → IsAttached (e ∷ h) s) → IsSession plan (e ∷ h) s new
 goes_on plan e h s old new attached i on of time is = record {
   stream = on.stream ∙ i.stream;
-  stands = stands_on plan e h s (session.means old) (session.means new) attached i.stream i.stands on of time;
+  stands = stands_on plan e h s (session.means old) (session.means new) attached i.stream i.stands on of.timed (omega (arith, time));
   attached = λ now. is (sym on.is_attached ∙ now);
 }
 

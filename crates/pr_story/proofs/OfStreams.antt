@@ -1,5 +1,5 @@
 -- What is asked of the event of a stream, and how the stream stands after it.
-use Rattle.std.proofs.Common.{◌≡◌, ℕ, ◌+◌, List, ◌∷◌, refl, sym, ◌∙◌, ap, max, cond, nat_eq, arith}
+use Rattle.std.proofs.Common.{◌≡◌, ℕ, ◌+◌, ◌≤◌, List, ◌∷◌, refl, sym, ◌∙◌, ap, max, cond, nat_eq, arith}
 use Rattle.std.specs.Prelude.{true, false, Bool, IsTrue}
 use Rattle.std.proofs.lemmas.Bool.Decides.{Decides-eqb}
 use Rattle.pr_inval.specs.declared.msg.Msg.{Msg}
@@ -79,13 +79,17 @@ pub later : (a b t time : ℕ) (on : Bool) → on ≡ true → time ≡ max a b 
 later a b t time true is own same = omega arith
 later a b t time false is own same = absurd (cc)
 
+as_late : (t time : ℕ) (on : Bool) → on ≡ true → t ≤ time → time ≡ max t (cond on time 0)
+as_late t time true is le = omega arith
+as_late t time false is le = absurd (cc)
+
 pub stands_on : (plan : Plan) (e : NodeEntry) (h : List NodeEntry) (s : ℕ) (a b : SessionMeaning) (attached : Bool) → a.stream ≡ s → StandsFor plan h s a.standing → HasGoneOn a b attached e.entry
-    → IsOfStream s e.entry.event → e.entry.time ≡ max (last_time (journal h e.node)) (stream_time h s) + 1 → StandsFor plan (e ∷ h) s b.standing
-stands_on plan e h s a b attached stream stands on of time = record {
+    → is_timed e.entry.event s ≡ true → stream_time h s ≤ e.entry.time → StandsFor plan (e ∷ h) s b.standing
+stands_on plan e h s a b attached stream stands on timed time = record {
   names = on.after.names ∙ stands.names;
   bodies = on.after.bodies ∙ stands.bodies;
   position = on.after.position ∙ ap (λ (t : ℕ). position_after e.entry.event t a.standing.position) stream ∙ ap (λ (p : List ℕ). position_after e.entry.event s p) stands.position;
   number = on.after.number ∙ ap (λ (t : ℕ). count_after e.entry.event t a.standing.number) stream ∙ ap (λ (k : ℕ). count_after e.entry.event s k) stands.number;
-  time = on.after.time ∙ later (last_time (journal h e.node)) (stream_time h s) (stream_time h s) e.entry.time (is_timed e.entry.event s) of.timed time refl;
+  time = on.after.time ∙ as_late (stream_time h s) e.entry.time (is_timed e.entry.event s) timed time;
   sent = λ o t. on.after.sent o t ∙ ap (λ (k : ℕ). sent_after e.entry.event k o t (a.standing.sent o t)) stream ∙ ap (λ (b : Bool). sent_after e.entry.event s o t b) (stands.sent o t);
 }

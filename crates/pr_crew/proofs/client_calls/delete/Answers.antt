@@ -1,4 +1,4 @@
-use Rattle.std.proofs.Common.{ℕ, List, [], refl, ◌∙◌, ap, sym}
+use Rattle.std.proofs.Common.{[], ◌∙◌, ap, sym}
 use Rattle.std.specs.Prelude.{true}
 use Rattle.pr_node.specs.Calls.{IsWriteWorn}
 use Rattle.pr_crew.specs.Asking.{IsWritten}

@@ -1,4 +1,4 @@
-use Rattle.std.proofs.Common.{ℕ, List, [], refl, ◌∙◌, ap, sym}
+use Rattle.std.proofs.Common.{◌∙◌, ap, sym}
 use Rattle.pr_node.specs.Calls.{IsTimeWorn}
 use Rattle.pr_crew.specs.Asking.{IsRead}
 use Rattle.pr_crew.specs.Stories.{stories}

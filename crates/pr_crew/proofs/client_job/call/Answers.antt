@@ -1,5 +1,4 @@
-use Rattle.std.proofs.Common.{ℕ, List, inl, refl, sym, subst}
-use Rattle.std.specs.Prelude.{false}
+use Rattle.std.proofs.Common.{ℕ, List, inl, sym, subst}
 use Rattle.pr_node.specs.Calls.{IsTimeWorn, IsWriteWorn}
 use Rattle.pr_script.specs.declared.command.Command.{Command}
 use Rattle.pr_script.specs.declared.command.Command.TheVariants as commands

@@ -1,4 +1,4 @@
-use Rattle.std.proofs.Common.{ℕ, Result, Ok, Err, ◌∙◌, subst, arith, rules, sym, ap}
+use Rattle.std.proofs.Common.{Result, ◌∙◌, subst, arith}
 use Rattle.pr_inval.specs.declared.node_fault.NodeFault.{NodeFault}
 use Rattle.pr_crew.specs.Clients.{EndsLine}
 use Rattle.pr_crew.proofs.Sofar.{lines_done, lines_more, lines_refused}
@@ -9,7 +9,7 @@ returns-in-Err-clause-done g c plan h n k of s =
     let so = c.loop-line.invariant.3 plan h n k of s in (
       so.0,
       lines_refused plan h n c.args.client k c.args.inside.now c.loop-line.line-index c.line-item.result c.run_line-next.result.0 c.run_line-next.new.seen so.0 c.in-Err.fault so.2
-      (subst (λ (r : Result (Unit {0}) NodeFault). EndsLine plan h n c.args.client k c.line-item.result so.0 c.run_line-next.result.0 c.run_line-next.new.seen r) c.in-Err.is (c.run_line-next.ensures.ends plan h n k so.0 of so.1)),
+          (subst (λ (r : Result (Unit {0}) NodeFault). EndsLine plan h n c.args.client k c.line-item.result so.0 c.run_line-next.result.0 c.run_line-next.new.seen r) c.in-Err.is (c.run_line-next.ensures.ends plan h n k so.0 of so.1)),
     )
 
 pub loop-line-preserved : goal.loop-line-preserved

@@ -1,4 +1,4 @@
-use Rattle.std.proofs.Common.{ℕ, List, [], ◌+◌, ◌≤◌, ◌≡◌}
+use Rattle.std.proofs.Common.{ℕ, List, [], ◌+◌, ◌≤◌}
 use Rattle.pr_cell.specs.Passes.{IsPassOf}
 use Rattle.pr_story.specs.History.{NodeEntry, Plan}
 use Rattle.pr_crew.specs.Clients.{EndsLines, IsSofar}

@@ -1,8 +1,8 @@
-use Rattle.std.proofs.Common.{ℕ, List, Result, Ok, Err, sym, subst, ◌∙◌}
+use Rattle.std.proofs.Common.{ℕ, List, Result, sym, subst, ◌∙◌}
 use Rattle.pr_inval.specs.declared.node_fault.NodeFault.{NodeFault}
 use Rattle.pr_crew.specs.Clients.{CallsLine}
 use Rattle.pr_crew.specs.Acting.{nowhere}
-use Rattle.pr_crew.proofs.Sofar.{called_line, other_line, refused_line}
+use Rattle.pr_crew.proofs.Sofar.{called_line, refused_line}
 use Rattle.pr_crew.proofs.client_job.run_line.Goals as goal
 
 pub returns-in-Ok-clause-ends : goal.returns-in-Ok-clause-ends

@@ -1,5 +1,4 @@
-use Rattle.std.proofs.Common.{ℕ, List, [], refl, ◌∙◌, ap, sym}
-use Rattle.std.specs.Prelude.{true}
+use Rattle.std.proofs.Common.{◌∙◌, ap, sym}
 use Rattle.pr_node.specs.Calls.{IsTaken, IsTimeWorn}
 use Rattle.pr_crew.specs.Stories.{stories}
 use Rattle.pr_crew.specs.Acting.{nothing, nowhere}

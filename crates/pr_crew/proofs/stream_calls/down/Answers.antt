@@ -1,10 +1,9 @@
-use Rattle.std.proofs.Common.{ℕ, List, [], refl, ◌∙◌, ap, sym}
-use Rattle.std.specs.Prelude.{true}
+use Rattle.std.proofs.Common.{◌∙◌, ap, sym}
 use Rattle.pr_inval.specs.Standing.{means}
 use Rattle.pr_node.specs.Calls.{IsDownFor, IsTimeWorn}
 use Rattle.pr_story.specs.Sessions.{HasGoneOn}
 use Rattle.pr_crew.specs.Stories.{stories}
-use Rattle.pr_crew.specs.Acting.{nothing, nowhere}
+use Rattle.pr_crew.specs.Acting.{nothing}
 use Rattle.pr_crew.proofs.Called.{adds_own, left, makes, time_alike, within}
 use Rattle.pr_crew.proofs.stream_calls.down.Goals as goal
 

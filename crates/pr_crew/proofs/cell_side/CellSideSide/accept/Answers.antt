@@ -1,4 +1,4 @@
-use Rattle.std.proofs.Common.{ℕ, List, sym, ◌∙◌, ap, subst}
+use Rattle.std.proofs.Common.{◌∙◌, ap}
 use Rattle.pr_flow.specs.Calls.{Accepting}
 use Rattle.pr_node.specs.Calls.{IsTaken, IsTimeWorn}
 use Rattle.pr_crew.specs.Acting.{AtCell, nothing, nowhere}

@@ -1,4 +1,4 @@
-use Rattle.std.proofs.Common.{ℕ, List, sym, ◌∙◌, ap, subst}
+use Rattle.std.proofs.Common.{◌∙◌, ap}
 use Rattle.pr_flow.specs.Calls.{Ending}
 use Rattle.pr_inval.specs.Standing.{means}
 use Rattle.pr_node.specs.Calls.{IsDownFor, IsTimeWorn}

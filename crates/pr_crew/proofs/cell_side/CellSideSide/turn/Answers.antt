@@ -1,4 +1,4 @@
-use Rattle.std.proofs.Common.{ℕ, List, sym, ◌∙◌, ap, subst}
+use Rattle.std.proofs.Common.{◌∙◌, ap}
 use Rattle.std.specs.Prelude.{true}
 use Rattle.pr_flow.specs.Calls.{Turning}
 use Rattle.pr_inval.specs.Standing.{means}

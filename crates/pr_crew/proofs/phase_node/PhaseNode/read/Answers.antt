@@ -21,12 +21,12 @@ invariant_of-self c = record {
 pub returns-clause-ok : goal.returns-clause-ok
 returns-clause-ok c = elim c.match-branch-2.branch [
   | in-Reply w ↦ subst (λ (r : Result (List ℕ) NodeFault). IfOk r (λ after. AddsOfClient (means c.args.self.now.node) (means c.read.new.self) c.args.needs.now c.args.caller (IsRead c.args.client c.args.name.now c.args.needs.now after))) (sym w.result-is)
-    (λ sessions.
-    let x = c.in_ok-read.ensures.ok sessions in
-    read (means c.args.self.now.node) (means c.read.new.self) sessions c.args.client c.args.caller c.args.name.now c.args.needs.now w.vector.result c.in_ok-read.field-0 x
-    (w.vector.ensures.value x.works ∙ sym (ap (λ (s : Seen). seen_after_read s c.args.needs.now (current_vector (means c.read.new.self).journal)) w.in-Reply.is)))
+      (λ sessions.
+      let x = c.in_ok-read.ensures.ok sessions in
+      read (means c.args.self.now.node) (means c.read.new.self) sessions c.args.client c.args.caller c.args.name.now c.args.needs.now w.vector.result c.in_ok-read.field-0 x
+      (w.vector.ensures.value x.works ∙ sym (ap (λ (s : Seen). seen_after_read s c.args.needs.now (current_vector (means c.read.new.self).journal)) w.in-Reply.is)))
   | in-Behind w ↦ subst (λ (r : Result (List ℕ) NodeFault). IfOk r (λ after. AddsOfClient (means c.args.self.now.node) (means c.read.new.self) c.args.needs.now c.args.caller (IsRead c.args.client c.args.name.now c.args.needs.now after))) (sym w.result-is)
-    (λ sessions.
-    read (means c.args.self.now.node) (means c.read.new.self) sessions c.args.client c.args.caller c.args.name.now c.args.needs.now c.args.needs.now c.in_ok-read.field-0 (c.in_ok-read.ensures.ok sessions)
-    (sym (ap (λ (s : Seen). seen_after_read s c.args.needs.now (current_vector (means c.read.new.self).journal)) w.in-Behind.is)))
+      (λ sessions.
+      read (means c.args.self.now.node) (means c.read.new.self) sessions c.args.client c.args.caller c.args.name.now c.args.needs.now c.args.needs.now c.in_ok-read.field-0 (c.in_ok-read.ensures.ok sessions)
+      (sym (ap (λ (s : Seen). seen_after_read s c.args.needs.now (current_vector (means c.read.new.self).journal)) w.in-Behind.is)))
 ]

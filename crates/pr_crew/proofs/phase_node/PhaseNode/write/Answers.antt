@@ -1,5 +1,5 @@
-use Rattle.std.proofs.Common.{ℕ, List, [], ap, sym, ◌∙◌}
-use Rattle.std.specs.Prelude.{false, true}
+use Rattle.std.proofs.Common.{ap, sym, ◌∙◌}
+use Rattle.std.specs.Prelude.{false}
 use Rattle.pr_node.specs.Calls.{IsDone, seen_after_done}
 use Rattle.pr_node.specs.Stored.{means}
 use Rattle.pr_node.specs.declared.answers.done.Done.{Done}
