@@ -1,19 +1,15 @@
 -- A flow's job, call by call.
-use Rattle.std.proofs.Common.{◌≡◌, ◌⊎◌, ℕ, zero, suc, ◌<◌, ◌≤◌, ◌+◌, List, [], ◌∷◌, ◌++◌, All, inl, inr, refl, sym, ap, ◌∙◌, subst, cond, length, get_or, map, max, nat_eq, arith, append-nil}
+use Rattle.std.proofs.Common.{◌≡◌, ℕ, zero, suc, ◌<◌, ◌≤◌, ◌+◌, List, [], ◌∷◌, ◌++◌, All, inr, refl, sym, ap, ◌∙◌, subst, cond, get_or, arith}
 use Rattle.std.specs.Prelude.{Bool, true, false, IsTrue, Option, Some, None, reverse}
 use Rattle.std.specs.List.Sorted.{IsStrictlyIncreasing}
 use mathlib.Core.List.{head-eq_of_cons-eq, tail-eq_of_cons-eq}
 use Rattle.std.proofs.lemmas.List.{map-append, reverse-append}
 use Rattle.std.proofs.lemmas.List.Elements.{All-push, All-tail, All-weaker}
-use Rattle.std.proofs.lemmas.Bool.Decides.{Decides-eqb}
-use Rattle.pr_flow.specs.Calls.{Accepting, Call, Ending, HasEnded, HasTaken, HasTurned, Turning}
-use Rattle.pr_flow.specs.Flows.{Sides, is_at_destination, is_at_source}
-use Rattle.pr_inval.specs.declared.msg.Msg.{Msg}
-use Rattle.pr_inval.specs.declared.node_fault.NodeFault.{NodeFault}
-use Rattle.pr_inval.specs.Standing.{HasHeard, SessionMeaning, Standing}
+use Rattle.pr_flow.specs.Calls.{Call}
+use Rattle.pr_flow.specs.Flows.{is_at_destination, is_at_source}
+use Rattle.pr_inval.specs.Standing.{SessionMeaning, Standing}
 use Rattle.pr_merge.specs.Phases.{times_of}
 use Rattle.pr_story.specs.declared.entry.Entry.{Entry}
-use Rattle.pr_story.specs.declared.event.Event.{Event}
 use Rattle.pr_story.specs.Clients.{is_with_needs}
 use Rattle.pr_story.specs.History.{NodeEntry, Plan}
 use Rattle.pr_story.specs.Lawful.{HasCause, IsOwnLawful, IsPlaced}
@@ -22,7 +18,7 @@ use Rattle.pr_story.specs.Merging.{IsJobRun, IsNoMissing, New, plain}
 use Rattle.pr_story.specs.Sessions.{HasGoneOn}
 use Rattle.pr_story.specs.Turns.{IsAttached, is_of_stream, is_timed, is_with_session, stream_time}
 use Rattle.pr_story.proofs.OfStreams.{stands_on}
-use Rattle.pr_crew.specs.Acting.{Acts, AtCell, acts, given, made_by, made_through, nothing, nowhere}
+use Rattle.pr_crew.specs.Acting.{Acts, AtCell, acts, given, made_by, made_through, nothing}
 use Rattle.pr_crew.specs.Jobs.{IsRun, MadeAt, at_destination, at_source}
 use Rattle.pr_crew.specs.Making.{HasMade, IsCellOf, IsSameCaller, NodeCell, NodePass, journal_with}
 use Rattle.pr_crew.proofs.MadeMore.{made_more}

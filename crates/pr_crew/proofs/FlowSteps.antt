@@ -1,24 +1,21 @@
 -- A flow's job, event by event.
-use Rattle.std.proofs.Common.{◌≡◌, ◌⊎◌, ℕ, ◌<◌, ◌≤◌, ◌+◌, List, [], ◌∷◌, ◌++◌, All, inl, inr, refl, sym, ap, ◌∙◌, subst, cond, max, nat_eq, arith}
-use Rattle.std.specs.Prelude.{Bool, true, false, IsTrue, Option, Some, None, reverse}
-use Rattle.std.proofs.lemmas.Bool.Decides.{Decides-eqb}
-use Rattle.pr_flow.specs.Calls.{Accepting, Call, Ending, HasEnded, HasStepped, HasTaken, HasTurned, Turning}
+use Rattle.std.proofs.Common.{◌≡◌, ℕ, ◌<◌, ◌+◌, List, [], ◌∷◌, ◌++◌, refl, sym, ap, ◌∙◌, subst, max, arith}
+use Rattle.std.specs.Prelude.{true, false, IsTrue, Some, None, reverse}
+use Rattle.pr_flow.specs.Calls.{Call, HasStepped, HasTurned, Turning}
 use Rattle.pr_flow.specs.Flows.{Sides, is_at_destination, is_at_source}
-use Rattle.pr_inval.specs.declared.msg.Msg.{Msg}
-use Rattle.pr_inval.specs.Standing.{HasHeard, SessionMeaning, Standing}
+use Rattle.pr_inval.specs.Standing.{Standing}
 use Rattle.pr_story.specs.declared.entry.Entry.{Entry}
 use Rattle.pr_story.specs.declared.event.Event.{Event}
 use Rattle.pr_story.specs.Clients.{is_with_needs}
-use Rattle.pr_story.specs.History.{NodeEntry, Plan, journal}
+use Rattle.pr_story.specs.History.{NodeEntry, Plan}
 use Rattle.pr_story.specs.Lawful.{HasCause, IsOwnLawful, IsPlaced, heard_time, last_time}
 use Rattle.pr_story.specs.Laws.{StandsFor}
 use Rattle.pr_story.specs.Merging.{IsNoMissing, New, plain}
-use Rattle.pr_story.specs.Sessions.{HasGoneOn}
 use Rattle.pr_story.specs.Turns.{IsAttached, is_of_stream, is_timed, is_with_session}
-use Rattle.pr_crew.specs.Acting.{AtCell, acts, given, made_through, nothing, nowhere}
+use Rattle.pr_crew.specs.Acting.{AtCell, acts, given, made_through, nothing}
 use Rattle.pr_crew.specs.Jobs.{MadeAt, at_destination, at_source}
 use Rattle.pr_crew.specs.Making.{IsCellOf, IsSameCaller, NodePass}
-use Rattle.pr_crew.proofs.FlowMore.{Common, IsNext, SideMore, common_more, destination_none, destination_one, next, side_more, source_none, source_one}
+use Rattle.pr_crew.proofs.FlowMore.{Common, common_more, destination_none, destination_one, next, side_more, source_none, source_one}
 
 module _ (plan : Plan) (h : List NodeEntry) (s k : ℕ) where
   abbrev pub src : ℕ

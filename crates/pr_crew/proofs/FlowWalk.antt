@@ -1,39 +1,30 @@
 -- A flow's job, from its first event to its end.
-use Rattle.std.proofs.Common.{◌≡◌, ◌≢◌, ◌⊎◌, ℕ, ◌<◌, ◌≤◌, ◌+◌, ◌-◌, List, [], ◌∷◌, ◌++◌, All, Result, Ok, Err, inl, inr, refl, sym, ap, ◌∙◌, subst, cond, max, nat_eq, arith, append-nil, append_assoc}
-use Rattle.std.specs.Prelude.{Bool, true, false, IsTrue, Option, Some, None, reverse}
+use Rattle.std.proofs.Common.{◌≡◌, ◌⊎◌, ℕ, ◌≤◌, List, [], ◌++◌, All, Result, Err, inl, inr, refl, sym, ap, ◌∙◌, subst, nat_eq, append-nil}
+use Rattle.std.specs.Prelude.{true, Option, Some, None, reverse}
 use Rattle.std.proofs.lemmas.Bool.Decides.{Decides-eqb}
-use Rattle.std.proofs.lemmas.List.Elements.{All-nil}
 use Rattle.pr_flow.specs.declared.flow_end.FlowEnd.{FlowEnd}
-use Rattle.pr_flow.specs.declared.flow_end.FlowEnd.TheVariants as ends
-use Rattle.pr_flow.specs.Calls.{Accepting, Call, Ending, HasEnded, HasNotEnded, HasNotTaken, HasNotTurned, HasStepped, HasTaken, HasTurned, Turning}
-use Rattle.pr_flow.specs.Flows.{Calls, Ends, Makes, Rest, Sides, is_at_destination, is_at_source}
-use Rattle.pr_flow.specs.Flows as flows
-use Rattle.pr_flow.specs.Lies.{IsLastOf}
+use Rattle.pr_flow.specs.Calls.{Call, HasNotTurned, Turning}
+use Rattle.pr_flow.specs.Flows.{Sides}
 use Rattle.pr_inval.specs.declared.msg.Msg.{Msg}
 use Rattle.pr_inval.specs.declared.node_fault.NodeFault.{NodeFault}
 use Rattle.pr_inval.specs.declared.node_fault.NodeFault.TheVariants.{NoMemory, Worn}
-use Rattle.pr_inval.specs.Standing.{HasHeard, IsSameSession, SessionMeaning, Standing}
+use Rattle.pr_inval.specs.Standing.{IsSameSession, SessionMeaning, Standing}
 use Rattle.pr_merge.specs.Phases.{times_of}
 use Rattle.pr_node.specs.Calls.{IsTimeWorn}
-use Rattle.pr_node.specs.Stored.{NodeMeaning}
 use Rattle.pr_story.specs.declared.cause.Cause.{Cause}
-use Rattle.pr_story.specs.declared.entry.Entry.{Entry}
 use Rattle.pr_story.specs.declared.event.Event.{Event}
 use Rattle.pr_story.specs.declared.event.Event.TheVariants.{Sent, Idle, Stale, Accepted, Gapped, Down}
-use Rattle.pr_story.specs.History.{NodeEntry, Plan, WasSent, journal}
+use Rattle.pr_story.specs.History.{NodeEntry, Plan}
 use Rattle.pr_story.specs.Laws.{StandsFor}
-use Rattle.pr_story.specs.Lawful.{HasCause, IsOwnLawful, IsPlaced, MayComeByJournal, heard_time, is_after_gap, last_time}
-use Rattle.pr_story.specs.Merging.{IsNoMissing, New, plain}
+use Rattle.pr_story.specs.Merging.{New, plain}
 use Rattle.pr_story.specs.Scripts.{events_of}
-use Rattle.pr_story.specs.Sessions.{HasGoneOn}
-use Rattle.pr_story.specs.Turns.{IsAttached, is_of_stream, is_timed, is_with_session, stream_time}
-use Rattle.pr_crew.specs.Acting.{Acts, AtCell, acts, given, heard, made_through, nothing, nowhere}
+use Rattle.pr_story.specs.Turns.{stream_time}
+use Rattle.pr_crew.specs.Acting.{Acts, AtCell, acts, heard, made_through}
 use Rattle.pr_crew.specs.Jobs.{FlowFailed, FlowLied, IsWornAt, MadeAt, at_destination, at_source}
-use Rattle.pr_crew.specs.Making.{HasFailed, IsCellOf, IsFaultFor, IsSameCaller, NodeCell, NodePass, node_with}
+use Rattle.pr_crew.specs.Making.{HasFailed, IsCellOf, IsFaultFor, IsSameCaller, NodeCell, NodePass}
 use Rattle.pr_crew.proofs.FlowMore.{Common}
-use Rattle.pr_crew.proofs.FlowSteps.{IsOfFlow, Sofar, destination_step, dst, source_step, src}
+use Rattle.pr_crew.proofs.FlowSteps.{IsOfFlow, Sofar, dst, src}
 use Rattle.pr_crew.proofs.MadeMore.{made_still}
-use Rattle.pr_crew.proofs.Sofar.{news, plain_append}
 
 same_caller : (p : NodePass) → IsSameCaller p p
 same_caller p = record { number = refl; held = refl; issued = refl }
