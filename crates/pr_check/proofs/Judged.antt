@@ -1,7 +1,8 @@
 -- What a judge stands for behind one line more.
-use Rattle.std.proofs.Common.{◌≡◌, ◌<◌, ◌+◌, ℕ, Bool, true, false, cond, List, [], ◌∷◌, ◌++◌, length, inl, inr, Option, Some, Result, Ok, Err, refl, sym, ap, subst, ◌∙◌}
+use Rattle.std.specs.Prelude.{map}
+use Rattle.std.proofs.Common.{◌≡◌, ◌<◌, ◌+◌, ℕ, Bool, true, false, cond, List, [], ◌∷◌, ◌++◌, length, inl, inr, Option, Some, Result, Ok, Err, refl, sym, ap, subst, ◌∙◌, arith}
 use Rattle.std.specs.Prelude.{IsTrue}
-use Rattle.std.proofs.lemmas.List.{append-nil}
+use Rattle.std.proofs.lemmas.List.{append-nil, length-append}
 use Rattle.pr_script.specs.declared.decl.Decl.{Decl}
 use Rattle.pr_script.specs.declared.decl.Decls.{Decls}
 use Rattle.pr_script.specs.Good.{AreGoodDecls}
@@ -33,6 +34,21 @@ use Rattle.pr_check.specs.declared.said.Said.{Said}
 use Rattle.pr_check.specs.declared.said.Said.TheVariants as saids
 use Rattle.pr_check.specs.declared.stage.Stage.{Stage}
 use Rattle.pr_check.specs.declared.stage.Stage.TheVariants as stages
+use Rattle.std.specs.List.{AllZip}
+use Rattle.std.specs.Str.{bytes_eq}
+use Rattle.std.proofs.lemmas.Slice.Zip.{AllZip-long}
+use Rattle.pr_script.proofs.Positions.{bytes_differ}
+use Rattle.pr_sets.specs.Sets.{rest_of}
+use Rattle.pr_sets.specs.Spans.{has}
+use Rattle.pr_story.specs.History.{Plan}
+use Rattle.pr_story.specs.Lawful.{IsLawful}
+use Rattle.pr_story.proofs.Counts.{histories_name}
+use Rattle.pr_story.proofs.Steps.{entry_at}
+use Rattle.pr_text.specs.Transcripts.{plan_of}
+use Rattle.pr_check.specs.Heads.{IsHead}
+use Rattle.pr_check.specs.Judging.{IsAlone, MayNotCome}
+use Rattle.pr_check.specs.Lines.{HasSets, IsTellableAt}
+use Rattle.pr_check.proofs.Begun.{not_both}
 use Rattle.pr_check.proofs.Begun.{heads_told, many_told, no_head, no_head_last, no_transcript, one_more_told}
 
 -- ---- head lines
@@ -131,11 +147,11 @@ behind ds e lines accepted r = (accepted, (r.1, record { valid = r.2.stands.vali
 pub not_yet : (ds : List Decl) (e : Engine) (lines : List (List ℕ)) → HasReplayed ds e lines → IsTranscript lines → ⊥
 not_yet ds e lines r whole = no_transcript ds r.1 lines r.4 whole
 
-pub bad_head : (ds : List Decl) (line : List ℕ) → AreAccepted ds → IsTrue (begins_head line) → IsBroken (decl_lines [] ds) line 1
-bad_head ds line accepted head = record {
+pub bad_head : (ds : List Decl) (line : List ℕ) → AreAccepted ds → IsTrue (begins_head line) → ((d : Decl) → IsHead ds line d → ⊥) → IsBroken (decl_lines [] ds) line 1
+bad_head ds line accepted head none = record {
   ds = ds;
   behind = (accepted, ([], record { valid = tt; declared = tt }, inl (heads_told ds (decl_lines [] ds) refl)));
-  breaks = inl (refl, ((ds, accepted, refl), head));
+  breaks = inl (refl, (((ds, accepted, refl), head), none));
 }
 
 pub no_line : (ds : List Decl) (e : Engine) (lines : List (List ℕ)) (line : List ℕ) → AreAccepted ds → HasReplayed ds e lines → (IsAsHead lines line → ⊥) → (IsEventLine ds line → ⊥) → (BeginsOk line → ⊥) → IsBroken lines line 2
@@ -145,18 +161,18 @@ no_line ds e lines line accepted r head event ok = record {
   breaks = inr (inl (refl, (not_yet ds e lines r, head, event, ok)));
 }
 
-pub bad_event : (ds : List Decl) (e : Engine) (lines : List (List ℕ)) (line : List ℕ) → AreAccepted ds → HasReplayed ds e lines → IsEventLine ds line → IsBroken lines line 3
-bad_event ds e lines line accepted r event = record {
+pub bad_event : (ds : List Decl) (e : Engine) (lines : List (List ℕ)) (line : List ℕ) → AreAccepted ds → HasReplayed ds e lines → IsEventLine ds line → MayNotCome ds lines line → IsBroken lines line 3
+bad_event ds e lines line accepted r event may_not = record {
   ds = ds;
   behind = behind ds e lines accepted r;
-  breaks = inr (inr (inl (refl, (not_yet ds e lines r, event))));
+  breaks = inr (inr (inl (refl, (not_yet ds e lines r, event, may_not))));
 }
 
-pub bad_end : (ds : List Decl) (e : Engine) (lines : List (List ℕ)) (line : List ℕ) → AreAccepted ds → HasReplayed ds e lines → (IsEventLine ds line → ⊥) → BeginsOk line → IsBroken lines line 4
-bad_end ds e lines line accepted r event ok = record {
+pub bad_end : (ds : List Decl) (e : Engine) (lines : List (List ℕ)) (line : List ℕ) → AreAccepted ds → HasReplayed ds e lines → (IsEventLine ds line → ⊥) → BeginsOk line → (line ≡ end_line (length lines) → ⊥) → IsBroken lines line 4
+bad_end ds e lines line accepted r event ok other = record {
   ds = ds;
   behind = behind ds e lines accepted r;
-  breaks = inr (inr (inr (refl, inr (event, ok))));
+  breaks = inr (inr (inr (refl, inr (event, ok, other))));
 }
 
 pub past_end : (ds : List Decl) (lines : List (List ℕ)) (line : List ℕ) → AreAccepted ds → StandsAt ds stages.Ended lines → IsBroken lines line 4
@@ -165,6 +181,45 @@ past_end ds lines line accepted (h, alone, is) = record {
   behind = (accepted, (h, alone, inr is));
   breaks = inr (inr (inr (refl, inl (ds, accepted, (h, alone, is)))));
 }
+
+-- ---- events that may come have their lines
+
+has_sets : (plan : Plan) (h : List NodeEntry) (n t c : ℕ) (event : Event) → IsLawful plan h (entry_at n t c event) → HasSets event
+has_sets plan h n t c (State at cut floor precise) l = λ none. some_set (map has (plan.sets n)) (rest_of (plan.sets n)) precise _ l.may_come.3 none
+  where
+    some_set : {A B : Type 0} (xs : List A) (x : A) (ys : List B) (R : A → B → Type 0) → AllZip R (xs ++ x ∷ []) ys → ys ≡ [] → ⊥
+    some_set xs x ys R zip none =
+        let l : length ys ≡ length (xs ++ x ∷ []) = AllZip-long R (xs ++ x ∷ []) ys zip in
+        let m : length (xs ++ x ∷ []) ≡ length xs + 1 = length-append xs (x ∷ []) in
+        let z : length ys ≡ 0 = ap (λ zs. length zs) none in
+        omega arith
+has_sets plan h n t c _ l = tt
+
+tellable : (ds : List Decl) (h : List NodeEntry) (e : NodeEntry) → IsAlone ds (e ∷ h) → IsTellableAt ds e.node e.entry.event
+tellable ds h e alone = (
+  alone.declared.0.0,
+  record {
+    range = alone.valid.0.in_range;
+    declared = (histories_name (plan_of ds) (counts_of ds) (e ∷ h) alone).1;
+    sets = has_sets (plan_of ds) h e.node e.entry.time e.entry.caller e.entry.event alone.valid.0;
+  },
+)
+
+pub may_not_come : (ds : List Decl) (e now : Engine) (lines : List (List ℕ)) (line : List ℕ) (found : Option Said) (said : Said) → (r : HasReplayed ds e lines) → found ≡ Some said → Says ds line found
+    → IsReplayed ds said line r.0 r.1 now (Ok false) → MayNotCome ds lines line
+may_not_come ds e now lines line found said r is says none = (
+  r.1,
+  record { valid = r.2.stands.valid; declared = r.2.speaks },
+  r.4,
+  λ other alone same. none r.3 other alone.valid.0
+      ((subst (λ (o : Option Said). Says ds line o) is says).1 other.node other.entry.event (tellable ds r.1 other alone, ap (λ (xs : List ℕ). xs ++ 10 ∷ []) same)) same,
+)
+
+pub other_end : (ds : List Decl) (h : List NodeEntry) (lines : List (List ℕ)) (line : List ℕ) (b : Bool) → lines ≡ told_lines ds h → b ≡ bytes_eq (end_line (length ds + length h)) line → b ≡ false
+    → line ≡ end_line (length lines) → ⊥
+other_end ds h lines line b is says differs same =
+    let many : length lines ≡ length ds + length h = ap (λ (ls : List (List ℕ)). length ls) is ∙ many_told ds h in
+    not_both b (says ∙ bytes_differ (end_line (length ds + length h)) line (sym (same ∙ ap end_line many))) differs
 
 pub event_line : (ds : List Decl) (line : List ℕ) (found : Option Said) (said : Said) → found ≡ Some said → Says ds line found → IsEventLine ds line
 event_line ds line found said is says = (subst (λ (o : Option Said). Says ds line o) is says).0
@@ -183,8 +238,8 @@ usable_then lines line now (Ok verdicts.Good) v = inr (lines ++ line ∷ [], v.1
 usable_then lines line now (Ok (verdicts.Bad why)) v = inl v.1
 usable_then lines line now (Err fault) v = inl v
 
-pub replayed_so : (ds : List Decl) (said : Said) (line : List ℕ) (attached : ℕ → Bool) (h : List NodeEntry) (e : Engine) (b : Bool) → b ≡ true → IsReplayed ds said line attached h e (Ok b) → IsReplayed ds said line attached h e (Ok true)
-replayed_so ds said line attached h e b is r = subst (λ (x : Bool). IsReplayed ds said line attached h e (Ok x)) is r
+pub replayed_so : (ds : List Decl) (said : Said) (line : List ℕ) (attached : ℕ → Bool) (h : List NodeEntry) (e : Engine) (a b : Bool) → a ≡ b → IsReplayed ds said line attached h e (Ok a) → IsReplayed ds said line attached h e (Ok b)
+replayed_so ds said line attached h e a b is r = subst (λ (x : Bool). IsReplayed ds said line attached h e (Ok x)) is r
 
 pub not_ok : (b : Bool) (line : List ℕ) → b ≡ false → IsTrue b → ⊥
 not_ok true line is t = absurd (cc)

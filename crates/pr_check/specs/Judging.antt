@@ -1,5 +1,5 @@
 -- Which lists of lines are transcripts, and what the first bad line breaks. Lines stand without their ends.
-use Rattle.std.specs.Prelude.{ℕ, ◌≡◌, ◌⊎◌, List, [], ◌∷◌, ◌++◌, IsTrue, codes, decimal, length, nat_eq}
+use Rattle.std.specs.Prelude.{ℕ, ◌≡◌, ◌≢◌, ◌⊎◌, List, [], ◌∷◌, ◌++◌, IsTrue, codes, decimal, length, nat_eq}
 use Rattle.std.specs.List.{starts_with}
 use Rattle.pr_script.specs.declared.decl.Decl.{Decl}
 use Rattle.pr_script.specs.Printing.{decl_lines}
@@ -8,7 +8,7 @@ use Rattle.pr_story.specs.History.{NodeEntry}
 use Rattle.pr_text.specs.Lines.{sentence}
 use Rattle.pr_text.specs.Numbers.{counts_of}
 use Rattle.pr_text.specs.Transcripts.{plan_of}
-use Rattle.pr_check.specs.Heads.{AreAccepted, begins_head}
+use Rattle.pr_check.specs.Heads.{AreAccepted, IsHead, begins_head}
 use Rattle.pr_check.specs.Lines.{IsEventLine}
 
 -- the history is valid and of what is declared; no script is known
@@ -68,22 +68,31 @@ AreBehind ds lines = AreAccepted ds × ((h : List NodeEntry) × IsAlone ds h × 
 abbrev pub IsAsHead : List (List ℕ) → List ℕ → Type 0
 IsAsHead lines line = AreHeads lines × IsTrue (begins_head line)
 
+-- and it is the head line of no declaration more
+abbrev pub IsNoHead : List Decl → List (List ℕ) → List ℕ → Type 0
+IsNoHead ds lines line = IsAsHead lines line × ((d : Decl) → ¬ IsHead ds line d)
+
 -- it is neither a head line, nor an event's, nor a last one
 abbrev pub IsNoLine : List Decl → List (List ℕ) → List ℕ → Type 0
 IsNoLine ds lines line = ¬ IsTranscript lines × ¬ IsAsHead lines line × ¬ IsEventLine ds line × ¬ BeginsOk line
 
--- it is an event's line
-abbrev pub IsOfEvent : List Decl → List (List ℕ) → List ℕ → Type 0
-IsOfEvent ds lines line = ¬ IsTranscript lines × IsEventLine ds line
+-- a history has the lines so far, behind which no entry with this line may come
+abbrev pub MayNotCome : List Decl → List (List ℕ) → List ℕ → Type 0
+MayNotCome ds lines line =
+    (h : List NodeEntry) × IsAlone ds h × (lines ≡ told_lines ds h) × ((e : NodeEntry) → IsAlone ds (e ∷ h) → sentence ds e.node e.entry.event ≢ line)
 
--- it is behind the last line, or it is to be a last one
+-- it is the line of an event that may not come there
+abbrev pub IsOfEvent : List Decl → List (List ℕ) → List ℕ → Type 0
+IsOfEvent ds lines line = ¬ IsTranscript lines × IsEventLine ds line × MayNotCome ds lines line
+
+-- it is behind the last line, or it is to be a last one and is not the right one
 abbrev pub IsAtEnd : List Decl → List (List ℕ) → List ℕ → Type 0
-IsAtEnd ds lines line = IsTranscript lines ⊎ (¬ IsEventLine ds line × BeginsOk line)
+IsAtEnd ds lines line = IsTranscript lines ⊎ (¬ IsEventLine ds line × BeginsOk line × (line ≢ end_line (length lines)))
 
 -- the number that tells which of these a bad line is, behind lines with these declarations
 abbrev pub Breaks : List Decl → List (List ℕ) → List ℕ → ℕ → Type 0
 Breaks ds lines line why =
-    ((why ≡ 1) × IsAsHead lines line)
+    ((why ≡ 1) × IsNoHead ds lines line)
     ⊎ (((why ≡ 2) × IsNoLine ds lines line)
     ⊎ (((why ≡ 3) × IsOfEvent ds lines line)
     ⊎ ((why ≡ 4) × IsAtEnd ds lines line)))

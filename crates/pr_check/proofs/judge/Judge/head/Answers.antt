@@ -15,4 +15,4 @@ returns-in-Some c =
     (head_begins ds c.args.line.now c.in-Some.more accepted is, record { decls = record { accepted = accepted; labels = labels }; stands = one_head ds c.args.line.now c.in-Some.more is })
 
 pub returns-in-None : goal.returns-in-None
-returns-in-None c = (bad_head c.args.self.now.decls.list c.args.line.now c.requires.decls.accepted c.requires.head, c.requires.spent)
+returns-in-None c = (bad_head c.args.self.now.decls.list c.args.line.now c.requires.decls.accepted c.requires.head (subst (λ (o : Option Decls). Declares c.args.self.now.decls.list c.args.line.now o) c.in-None.is c.in_ok-more.ensures.head), c.requires.spent)

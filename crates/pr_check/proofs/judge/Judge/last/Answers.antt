@@ -3,7 +3,7 @@ use Rattle.pr_script.proofs.Positions.{bytes_are}
 use Rattle.pr_sim.specs.Making.{declared_of}
 use Rattle.pr_check.specs.Judging.{end_line}
 use Rattle.pr_check.proofs.Compared.{tells}
-use Rattle.pr_check.proofs.Judged.{bad_end, end_begins, end_stands, no_line, not_ok}
+use Rattle.pr_check.proofs.Judged.{bad_end, end_begins, end_stands, no_line, not_ok, other_end}
 use Rattle.pr_check.proofs.judge.Judge.last.Goals as goal
 
 pub returns-then-not-starts_with : goal.returns-then-not-starts_with
@@ -17,7 +17,8 @@ is_last_line-requires c = let r = c.requires.replayed.1 in (r.1, tells (declared
 
 pub returns-then-not-branch : goal.returns-then-not-branch
 returns-then-not-branch c lines r head = (
-  bad_end c.args.self.now.decls.list c.args.engine.now lines c.args.line.now c.requires.decls.accepted r c.requires.none (sym c.starts_with.ensures.value ∙ c.if-not-starts_with.false),
+  bad_end c.args.self.now.decls.list c.args.engine.now lines c.args.line.now c.requires.decls.accepted r c.requires.none (sym c.starts_with.ensures.value ∙ c.if-not-starts_with.false)
+      (other_end c.args.self.now.decls.list r.1 lines c.args.line.now c.in_ok-is_last_line.field-0 r.4 (c.in_ok-is_last_line.ensures r.1 (tells (declared_of c.args.self.now.decls.list) r.0 r.1 c.args.engine.now r.2)) c.if-not-branch.true),
   c.requires.spent,
 )
 
