@@ -14,3 +14,7 @@ pub mod EventsAgain
 pub mod LineRead
 pub mod HeadLines
 pub mod Given
+pub mod Remade
+pub mod Compared
+pub mod Begun
+pub mod Judged

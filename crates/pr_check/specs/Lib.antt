@@ -4,3 +4,6 @@ pub mod Fields
 pub mod Parts
 pub mod Events
 pub mod Heads
+pub mod Judging
+pub mod Asking
+pub mod Standing

@@ -3,8 +3,10 @@ ghost use Rattle.pr_check.specs.Events.{said_if};
 ghost use Rattle.pr_check.specs.Lines.{Says};
 ghost use Rattle.pr_script.specs.Labels.{AreLabels};
 ghost use Rattle.pr_script.specs.declared.kind.Kind.TheVariants as kinds;
+ghost use Rattle.pr_text.specs.Lines.{sentence};
 ghost use Rattle.pr_text.specs.Numbers.{Has};
 ghost use Rattle.std.specs.Prelude.{◌≡◌, ◌↔◌, IfOk, IsTrue};
+ghost use Rattle.std.specs.Str.{bytes_eq};
 
 use crate::event::told;
 use crate::refusal::Refusal;
@@ -12,6 +14,7 @@ use crate::said::{Said, said_of};
 use crate::told::Told;
 use pr_script::{Decl, Decls, Kind, label_at};
 use pr_stamps::{NoMemory, Seq};
+use pr_story::Event;
 use pr_text::line as print_line;
 use std::alloc::Global;
 
@@ -51,12 +54,25 @@ fn said_if_printed(
     ensures { IfOk result (λ said. said ≡ said_if decls.now.list told.node told.event line.now) }
 {
     let Told { node, event } = told;
-    let mut text = Seq::new(alloc);
-    print_line(alloc, decls, node, &event, &mut text)?;
-    text.truncate(text.len() - 1);
-    if text.as_slice() == line {
+    if is_printed(alloc, decls, node, &event, line)? {
         Ok(Some(said_of(node, event)))
     } else {
         Ok(None)
     }
+}
+
+/// Whether the line, without its end, is that of the event at the node.
+pub fn is_printed(
+    alloc: Global,
+    decls: &Decls,
+    node: u32,
+    event: &Event,
+    line: &[u8],
+) -> Result<bool, NoMemory>
+    ensures { IfOk result (λ is. is ≡ bytes_eq (sentence decls.now.list node event.now) line.now) }
+{
+    let mut text = Seq::new(alloc);
+    print_line(alloc, decls, node, event, &mut text)?;
+    text.truncate(text.len() - 1);
+    Ok(text.as_slice() == line)
 }

@@ -1,7 +1,7 @@
 ghost use Rattle.pr_script.specs.Labels.{AreLabels};
 ghost use Rattle.std.specs.Prelude.{IfOk};
 
-use crate::{Said, begins_head, no_decls, read_head, read_line};
+use crate::{Judge, Said, Verdict, begins_head, no_decls, read_head, read_line};
 use pr_script::{Decls, read};
 use pr_text::plain::Asked;
 use std::alloc::Global;
@@ -222,5 +222,76 @@ fn beginnings_of_heads(rt: HostRuntime) -> Result<(), Fail> {
     assert!(rt; begins_head(b"stream !"));
     assert!(rt; !begins_head(b"node"));
     assert!(rt; !begins_head(b" node A"));
+    Ok(())
+}
+
+// The first path through all kinds of events of a write that is sent.
+const FIRST: [&[u8]; 13] = [
+    b"node A *",
+    b"node B *",
+    b"client c A",
+    b"client d B",
+    b"stream s A B *",
+    b"attach s at -",
+    b"write c a/x \"hi\" 1@A over - after -",
+    b"send s 1 precise a/x 1@A over - from - to A:1",
+    b"accept s 1 at A:1",
+    b"read c a/x value 1@A \"hi\" at A:1",
+    b"read d a/x body 1@A at A:1",
+    b"idle s",
+    b"ok 12",
+];
+
+// The number of the first bad line and what it breaks; or 0, and what the end breaks, which is 0 at a transcript.
+fn judged(alloc: Global, lines: &[&[u8]]) -> Option<(usize, u8)> {
+    let mut judge = Judge::new(alloc);
+    for (at, line) in lines.iter().enumerate() {
+        match judge.line(line) {
+            Ok(Verdict::Good) => {}
+            Ok(Verdict::Bad { why }) => return Some((at + 1, why)),
+            Err(_) => return None,
+        }
+    }
+    match judge.finish() {
+        Ok(Verdict::Good) => Some((0, 0)),
+        Ok(Verdict::Bad { why }) => Some((0, why)),
+        Err(_) => None,
+    }
+}
+
+// What is said of the first path, where one line is another.
+fn judged_with(alloc: Global, at: usize, line: &'static [u8]) -> Option<(usize, u8)> {
+    let mut lines = FIRST;
+    if at < lines.len() {
+        lines[at] = line;
+    }
+    judged(alloc, &lines)
+}
+
+#[test]
+fn a_transcript_is_judged(rt: HostRuntime) -> Result<(), Fail> {
+    let alloc = rt.alloc();
+    assert!(rt; judged(alloc, &FIRST) == Some((0, 0)));
+    assert!(rt; judged(alloc, &FIRST[..12]) == Some((0, 4)));
+    assert!(rt; judged(alloc, &FIRST[..0]) == Some((0, 4)));
+    Ok(())
+}
+
+#[test]
+fn a_line_that_is_another(rt: HostRuntime) -> Result<(), Fail> {
+    let alloc = rt.alloc();
+    let table: [(usize, &'static [u8], usize, u8); 8] = [
+        (9, b"read c a/x never at A:1", 10, 3),
+        (8, b"accept s 2 at A:1", 9, 3),
+        (8, b"down s gap", 9, 3),
+        (5, b"idle s", 6, 3),
+        (6, b"node C *", 7, 2),
+        (3, b"client c B", 4, 1),
+        (12, b"ok 11", 13, 4),
+        (7, b"ok 7", 9, 4),
+    ];
+    for (at, line, bad, why) in &table {
+        assert!(rt; judged_with(alloc, *at, line) == Some((*bad, *why)));
+    }
     Ok(())
 }
