@@ -1,8 +1,7 @@
--- A script that is run without its lines.
-use Rattle.std.proofs.Common.{◌≡◌, ℕ, ◌+◌, ◌<◌, ◌≤◌, List, [], ◌∷◌, ◌++◌, Result, Ok, Err, refl, sym, ◌∙◌, ap, subst, drop, length, arith}
-use Rattle.std.specs.Prelude.{Some, None, Option, All, Bool, codes, take}
+-- A script that is told by the summary of its run.
+use Rattle.std.proofs.Common.{◌≡◌, ℕ, ◌<◌, ◌≤◌, List, [], ◌∷◌, Ok, Err, sym, ◌∙◌, ap, subst, length, arith}
+use Rattle.std.specs.Prelude.{None, Option, All, Bool, codes, take}
 use Rattle.std.proofs.lemmas.List.Elements.{All-append, All-cons, All-nil}
-use Rattle.std.proofs.lemmas.List.{drop-drop, drop_all}
 use Rattle.pr_gen.specs.Summary.{node_count, summary_text}
 use Rattle.pr_gen.specs.Workload.{workload}
 use Rattle.pr_gen.proofs.Runs.{nothing_unmet}
@@ -11,7 +10,6 @@ use Rattle.pr_script.specs.declared.script.Script.{Script}
 use Rattle.pr_script.specs.declared.decl.Decl.{Decl}
 use Rattle.pr_script.specs.declared.kind.Kind.TheVariants as kinds
 use Rattle.pr_script.specs.Labels.{count_of}
-use Rattle.pr_script.specs.Steps.{Numbered}
 use Rattle.pr_sim.specs.Holding.{held_of, journal_of}
 use Rattle.pr_sim.specs.Making.{declared_of}
 use Rattle.pr_sim.specs.Running.{IsRunning}
@@ -28,36 +26,12 @@ use Rattle.pr_top.specs.Generated.{HasGenerated, HasSummed}
 use Rattle.pr_top.specs.Runs.{WritesLine}
 use Rattle.pr_top.specs.declared.status.Status.TheVariants as status
 use Rattle.pr_top.proofs.Promised.{headline}
-use Rattle.pr_top.specs.Progress.{HasCome, HasStopped, Writes}
+use Rattle.pr_top.specs.Progress.{HasCome, Writes}
 use Rattle.pr_top.specs.declared.stepping.Halt.{Halt}
 use Rattle.pr_top.specs.declared.stepping.Halt.TheVariants as halts
 use Rattle.pr_top.proofs.Coming.{begun, ended}
-use Rattle.pr_top.proofs.Runs.{IsUnderWay, history_of, no_run, stop_here}
-
--- a run whose lines are not written
-pub silently : (s : Script) (at : ℕ) (h : List NodeEntry) (e : Engine) (unmet : Option ℕ) → HasCome s (drop at s.commands) h e unmet → IsUnderWay s at (length h) e unmet None None
-silently s at h e unmet come = record { h = h; come = come; all_told = refl; written = tt }
-
-pub behind : (s : Script) (at n : ℕ) (h : List NodeEntry) (e : Engine) (unmet : Option ℕ) → HasCome s (drop (n + 1) (drop at s.commands)) h e unmet → (g : List NodeEntry) × HasCome s (drop (at + (n + 1)) s.commands) g e unmet
-behind s at n h e unmet come =
-    (h, subst (λ (rest : List Numbered). HasCome s rest h e unmet) (drop-drop (n + 1) at s.commands ∙ ap (λ (i : ℕ). drop i s.commands) (omega arith)) come)
-
-pub all_run : (s : Script) (at : ℕ) (h : List NodeEntry) (e : Engine) (unmet : Option ℕ) → HasCome s (drop at s.commands) h e unmet → length s.commands ≤ at → HasCome s [] h e unmet
-all_run s at h e unmet come past = subst (λ (rest : List Numbered). HasCome s rest h e unmet) (drop_all at s.commands past) come
 
 -- ---- what is summed
-
--- nothing was run
-pub nothing_summed : (s : Script) → HasSummed s (Err halts.NoMemory)
-nothing_summed s = ([], record { valid = tt; declared = tt }, no_run s, tt)
-
--- the run stopped
-pub stopped_summed : (s : Script) (e : Engine) (halt : Halt) → (h : List NodeEntry) × HasStopped s h e halt → HasSummed s (Err halt)
-stopped_summed s e halt (h, k) = (h, history_of s h e halt k, k.begun, k.cause)
-
--- it may stop at its end
-pub ended_stops : (s : Script) (e : Engine) (unmet : Option ℕ) → (h : List NodeEntry) × HasCome s [] h e unmet → HasSummed s (Err halts.NoMemory)
-ended_stops s e unmet (h, k) = stopped_summed s e halts.NoMemory (h, stop_here s [] h e unmet k)
 
 nodes_within : (n : ℕ) (k : Counts) (h : List NodeEntry) → k.nodes ≡ n → AreDeclared k h → All (λ (p : ℕ × ℕ). p.0 < n) (places_of h)
 nodes_within n k [] same are = All-nil (λ (p : ℕ × ℕ). p.0 < n)

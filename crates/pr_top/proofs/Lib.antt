@@ -7,4 +7,8 @@ pub mod Promised
 pub mod Written
 pub mod Lines
 pub mod Runs
+pub mod SilentRuns
+pub mod KindLists
+pub mod AskedRuns
+pub mod Unread
 pub mod Generated

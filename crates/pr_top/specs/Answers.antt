@@ -1,12 +1,16 @@
 -- When the answers of the top call come, and what each leaves.
-use Rattle.std.specs.Prelude.{◌≡◌, ◌⊎◌, ◌≤◌, ◌<◌, ℕ, List, Option, Some, None, IfSome, codes}
+use Rattle.std.specs.Prelude.{◌≡◌, ◌⊎◌, ◌≤◌, ◌<◌, ℕ, List, [], Option, Some, None, IfSome, codes}
+use Rattle.std.specs.Io.KnownBytes.{Appends}
 use Rattle.pr_ports.specs.Faults.{HasRisen}
 use Rattle.pr_gen.specs.Workload.{workload}
+use Rattle.pr_script.specs.Labels.{number_among}
+use Rattle.pr_script.specs.declared.kind.Kind.TheVariants as kinds
 use Rattle.pr_script.specs.declared.script.Script.{Script}
 use Rattle.pr_text.specs.Endings.{bad_cause, error_line}
 use Rattle.pr_words.specs.declared.job.Job.{Job}
 use Rattle.pr_words.specs.declared.job.Job.TheVariants as jobs
 use Rattle.pr_top.specs.Reading.{HasBadLine, HasScript}
+use Rattle.pr_top.specs.Asked.{HasAsked}
 use Rattle.pr_top.specs.Generated.{HasGenerated}
 use Rattle.pr_top.specs.Runs.{HasRun, WritesLine}
 use Rattle.pr_top.specs.Sizes.{IsTooLarge}
@@ -82,11 +86,32 @@ pub record AnswersGenerated (s : Script) (a b : Ports) (result : Status) : Type 
   pub run : HasGenerated result s (HasRisen a.write_faults b.write_faults) a.text b.text
       ⊎ ((result ≡ status.NoMemory) × Writes a b (error_line (codes "no memory")))
 
+-- nothing was written
+abbrev pub WritesNothing : Ports → Ports → Type 0
+WritesNothing a b = Appends a.text b.text []
+
+-- the answer where a node asks for its streams: no line tells a fault
+abbrev pub AnswersAsk : List ℕ → Ports → Ports → Status → Type 0
+AnswersAsk label a b status.ReadFault = HasRisen a.read_faults b.read_faults × WritesNothing a b
+AnswersAsk label a b status.TooLarge = IfSome a.left IsTooLarge × WritesNothing a b
+AnswersAsk label a b (status.BadScript line why) = HasBadLine a.left b.left line why × WritesNothing a b
+AnswersAsk label a b status.NoNode =
+    (s : Script) × HasScript a.left b.left s × (number_among kinds.Node s.decls.list label ≡ None) × WritesNothing a b
+AnswersAsk label a b status.NoMemory = WritesNothing a b
+AnswersAsk label a b result =
+    (s : Script) × (n : ℕ) × HasScript a.left b.left s × (number_among kinds.Node s.decls.list label ≡ Some n)
+    × HasAsked result s n (HasRisen a.write_faults b.write_faults) a.text b.text
+
+-- memory ran out before the words were read
+abbrev pub IsUnread : Ports → Ports → Status → Type 0
+IsUnread a b result = (result ≡ status.NoMemory) × Writes a b (error_line (codes "no memory"))
+
 -- the call's answer, by the job that the words ask for
 abbrev pub Answers : Option Job → Ports → Ports → Status → Type 0
 Answers (Some jobs.Sim) a b result = AnswersScript a b result
 Answers (Some (jobs.Gen seed size)) a b result =
     (size ≤ 90000 → AnswersGenerated (workload seed size) a b result) × (90000 < size → IsUnaccepted a b result)
+Answers (Some (jobs.Ask node)) a b result = AnswersAsk node a b result ⊎ IsUnread a b result
 Answers _ a b result = IsUnaccepted a b result
 
 -- the exit status of a process
@@ -101,3 +126,5 @@ number_of (status.Lied stream number sent got) = 6
 number_of status.NoMemory = 7
 number_of (status.Unmet line) = 8
 number_of (status.Worn at) = 9
+number_of (status.BadBytes at) = 11
+number_of status.NoNode = 12

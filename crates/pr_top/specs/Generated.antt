@@ -1,9 +1,8 @@
 -- What comes of a generated script, which is told by its summary.
-use Rattle.std.specs.Prelude.{◌≡◌, ℕ, List, [], Option, None, Result, Ok, Err, take, codes}
+use Rattle.std.specs.Prelude.{◌≡◌, ℕ, List, Option, None, Result, Ok, Err, take, codes}
 use Rattle.std.specs.Io.KnownBytes.{Appends}
 use Rattle.pr_gen.specs.Summary.{summary_text}
 use Rattle.pr_script.specs.declared.script.Script.{Script}
-use Rattle.pr_sim.specs.declared.engine.Engine.{Engine}
 use Rattle.pr_story.specs.History.{NodeEntry}
 use Rattle.pr_story.specs.Scripts.{JobAfterJob}
 use Rattle.pr_text.specs.Endings.{error_line}
@@ -11,8 +10,9 @@ use Rattle.pr_text.specs.Histories.{HasBegun, IsRunOf}
 use Rattle.pr_text.specs.Numbers.{counts_of}
 use Rattle.pr_text.specs.Transcripts.{plan_of}
 use Rattle.pr_top.specs.Headline.{Headline}
-use Rattle.pr_top.specs.Progress.{HasCome, HasStopped, IsHalt, IsHistoryOfDecls}
+use Rattle.pr_top.specs.Progress.{IsHistoryOfDecls}
 use Rattle.pr_top.specs.Runs.{IsEnd, IsLine}
+use Rattle.pr_top.specs.Silent.{HasStoppedSo}
 use Rattle.pr_top.specs.declared.status.Status.{Status}
 use Rattle.pr_top.specs.declared.status.Status.TheVariants as status
 use Rattle.pr_top.specs.declared.stepping.Halt.{Halt}
@@ -38,12 +38,7 @@ pub record HasGenerated (result : Status) (s : Script) (failed : Type 0) (before
 
 -- ---- within
 
--- all commands were run, or the run stopped
-abbrev pub HasRunSo : Script → Engine → Option ℕ → Result (Unit {0}) Halt → Type 0
-HasRunSo s e unmet (Ok done) = (h : List NodeEntry) × HasCome s [] h e unmet
-HasRunSo s e unmet (Err halt) = (h : List NodeEntry) × HasStopped s h e halt
-
 -- the summary of the whole run, or its history where it stopped
 abbrev pub HasSummed : Script → Result (List ℕ) Halt → Type 0
 HasSummed s (Ok text) = (h : List NodeEntry) × IsHistoryOfDecls s h × IsRunOf JobAfterJob s h None × HasBegun JobAfterJob s h × (text ≡ summary_text s.decls.list h)
-HasSummed s (Err halt) = (h : List NodeEntry) × IsHistoryOfDecls s h × HasBegun JobAfterJob s h × IsHalt h halt
+HasSummed s (Err halt) = HasStoppedSo s halt

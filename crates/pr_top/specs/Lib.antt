@@ -4,5 +4,7 @@ pub mod Runs
 pub mod Reading
 pub mod Progress
 pub mod Stopping
+pub mod Silent
 pub mod Generated
+pub mod Asked
 pub mod Answers

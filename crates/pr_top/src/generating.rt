@@ -1,18 +1,17 @@
 // A generated script is run, and told by its summary.
 ghost use Rattle.pr_gen.specs.Workload.{workload};
 ghost use Rattle.pr_ports.specs.Faults.{HasRisen};
-ghost use Rattle.pr_top.specs.Generated.{HasGenerated, HasRunSo, HasSummed};
-ghost use Rattle.pr_top.specs.Progress.{HasCome};
-ghost use Rattle.std.specs.Prelude.{◌≤◌, []};
+ghost use Rattle.pr_top.specs.Generated.{HasGenerated, HasSummed};
+ghost use Rattle.std.specs.Prelude.{◌≤◌};
 
 use crate::Status;
 use crate::running::write;
-use crate::stepping::{Halt, Run};
+use crate::silent::run_silently;
+use crate::stepping::Halt;
 use crate::telling::tell;
 use pr_gen::{script, summary};
 use pr_ports::Sink;
-use pr_script::{Bytes, Script};
-use pr_sim::Engine;
+use pr_script::Bytes;
 use pr_stamps::Seq;
 use std::alloc::Global;
 
@@ -38,26 +37,8 @@ fn summed(alloc: Global, seed: u64, size: u64) -> Result<Bytes, Halt>
     ensures { HasSummed (workload seed size) result }
 {
     let script = script(alloc, seed, size)?;
-    let engine = Engine::new(alloc, &script.decls)?;
-    let mut run = Run {
-        engine,
-        unmet: None,
-    };
-    run_all(&script, &mut run)?;
+    let run = run_silently(alloc, &script)?;
     let mut text = Seq::new(alloc);
     summary(&script.decls, &run.engine, &mut text)?;
     Ok(text)
-}
-
-// Runs all commands.
-fn run_all(script: &Script, run: &mut Run) -> Result<(), Halt>
-    requires { HasCome script.now script.now.commands [] run.old.engine run.old.unmet }
-    ensures { HasRunSo script.now run.new.engine run.new.unmet result }
-{
-    let list = script.commands.as_slice();
-    let mut at = 0;
-    while at < list.len() {
-        at += run.step(&list[at], &list[at + 1..])? + 1;
-    }
-    Ok(())
 }

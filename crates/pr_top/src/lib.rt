@@ -1,9 +1,13 @@
 //! The top call: a script is read, run, and told as a transcript.
 #![tactic(auto)]
 
+mod asker;
+mod asking;
 mod generating;
+mod nodes;
 mod reading;
 mod running;
+mod silent;
 mod size;
 mod status;
 mod stepping;

@@ -39,6 +39,12 @@ pub enum Status {
     Worn {
         at: u64,
     },
+    /// At this byte behind the script's end no ask stands, or no message that may be taken in.
+    BadBytes {
+        at: u64,
+    },
+    /// The script declares no node of this label.
+    NoNode,
 }
 
 impl Status {
@@ -57,6 +63,8 @@ impl Status {
             Status::NoMemory => 7,
             Status::Unmet { .. } => 8,
             Status::Worn { .. } => 9,
+            Status::BadBytes { .. } => 11,
+            Status::NoNode => 12,
         }
     }
 }

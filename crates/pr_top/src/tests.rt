@@ -1,3 +1,4 @@
+mod asked;
 mod worked;
 mod worked_more;
 

@@ -7,6 +7,7 @@ ghost use Rattle.pr_words.specs.Words.{job_of};
 ghost use Rattle.std.specs.Prelude.{◌≡◌, ◌⊎◌, Some, codes, map, string_bytes};
 
 use crate::Status;
+use crate::asking::ask;
 use crate::generating::generate;
 use crate::reading::{ReadError, read_script};
 use crate::running::run;
@@ -26,7 +27,8 @@ const MOST: u64 = 90_000;
 /// `sim` reads a script (docs/SCRIPT.md), runs it in one thread and writes its transcript (docs/TRANSCRIPT.md), each line
 /// as it comes. Reading takes time linear in the script's bytes and keeps its commands; the run takes the time of the
 /// nodes' calls and keeps their journals. `gen` reads nothing, runs the generated script of its seed and size, and writes
-/// the summary of the run.
+/// the summary of the run. `ask` reads and runs a script, writes the asks of a node for the streams that end at it
+/// (docs/WIRE.md), and no line.
 pub fn practi<S: Source, K: Sink, W: Wires>(
     alloc: Global,
     words: &[String],
@@ -51,6 +53,7 @@ pub fn alone<S: Source, K: Sink>(alloc: Global, job: &Job, script: &mut S, out: 
     match job {
         Job::Sim => sim(alloc, script, out),
         Job::Gen { seed, size } if *size <= MOST => generate(alloc, *seed, *size, out),
+        Job::Ask { node } => ask(alloc, node.as_slice(), script, out),
         _ => usage(out),
     }
 }

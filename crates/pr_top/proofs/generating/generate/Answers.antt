@@ -1,11 +1,10 @@
-use Rattle.std.proofs.Common.{◌≡◌, Err, List, Result, Ok, ap, subst, sym, ℕ}
+use Rattle.std.proofs.Common.{Err, List, Ok, subst, sym, ℕ}
 use Rattle.pr_gen.specs.Workload.{workload}
 use Rattle.pr_ports.specs.Faults.{HasRisen}
 use Rattle.pr_top.specs.Generated.{HasGenerated, HasSummed}
 use Rattle.pr_top.specs.Progress.{Writes}
 use Rattle.pr_top.specs.declared.status.Status.{Status}
 use Rattle.pr_top.specs.declared.stepping.Halt.{Halt}
-use Rattle.pr_top.specs.declared.stepping.Halt.TheVariants as halts
 use Rattle.pr_top.proofs.Generated.{stopped_short, stopped_worn, summary_cut, summary_written}
 use Rattle.pr_top.proofs.generating.generate.Goals as goal
 

@@ -7,8 +7,8 @@ use Rattle.pr_top.specs.declared.stepping.Halt.{Halt}
 use Rattle.pr_top.specs.declared.stepping.Halt.TheVariants as halts
 use Rattle.pr_gen.specs.Summary.{summary_text}
 use Rattle.pr_gen.specs.Workload.{workload}
-use Rattle.pr_top.proofs.Coming.{start}
-use Rattle.pr_top.proofs.Generated.{all_summed, ended_stops, has_history, nodes_are, nothing_summed, stopped_summed}
+use Rattle.pr_top.proofs.Generated.{all_summed, has_history, nodes_are}
+use Rattle.pr_top.proofs.SilentRuns.{ended_stops, nothing_ran}
 use Rattle.pr_top.proofs.generating.summed.Goals as goal
 
 pub returns-in_err-script : goal.returns-in_err-script
@@ -17,34 +17,22 @@ returns-in_err-script c =
     let is = p.1 in
     let same = p.2 in
     let done : c.from_residual.result ≡ Err halts.NoMemory = cc in
-    subst (λ (r : Result (List ℕ) Halt). HasSummed (workload c.args.seed c.args.size) r) (sym done) (nothing_summed (workload c.args.seed c.args.size))
+    subst (λ (r : Result (List ℕ) Halt). HasSummed (workload c.args.seed c.args.size) r) (sym done) (nothing_ran (workload c.args.seed c.args.size))
 
-pub returns-in_err-engine : goal.returns-in_err-engine
-returns-in_err-engine c =
-    let p = err_from_is_err_and c.from_residual-in_err-engine.result c.from_residual-in_err-engine.ensures.1 in
-    let is = p.1 in
-    let same = p.2 in
-    let done : c.from_residual-in_err-engine.result ≡ Err halts.NoMemory = cc in
-    subst (λ (r : Result (List ℕ) Halt). HasSummed (workload c.args.seed c.args.size) r) (sym done) (nothing_summed (workload c.args.seed c.args.size))
-
-pub run_all-requires : goal.run_all-requires
-run_all-requires c = start c.in_ok-script.script c.in_ok-engine.engine c.in_ok-script.ensures.good c.in_ok-engine.ensures
-
-pub returns-in_err-run_all : goal.returns-in_err-run_all
-returns-in_err-run_all c =
-    let p = err_from_is_err_and c.from_residual-in_err-run_all.result c.from_residual-in_err-run_all.ensures.1 in
+pub returns-in_err-run : goal.returns-in_err-run
+returns-in_err-run c =
+    let p = err_from_is_err_and c.from_residual-in_err-run.result c.from_residual-in_err-run.ensures.1 in
     let same = p.2 in
     let is = p.1 in
-    let done : c.from_residual-in_err-run_all.result ≡ Err c.in_err-run_all.field-0.0 = cc in
+    let done : c.from_residual-in_err-run.result ≡ Err c.in_err-run.field-0.0 = cc in
     subst (λ (r : Result (List ℕ) Halt). HasSummed (workload c.args.seed c.args.size) r) (sym done)
-    (subst (λ (s : Script). HasSummed s (Err c.in_err-run_all.field-0.0)) c.in_ok-script.ensures.script
-    (stopped_summed c.in_ok-script.script c.run_all.new.run.engine c.in_err-run_all.field-0.0 c.in_err-run_all.ensures))
+    (subst (λ (s : Script). HasSummed s (Err c.in_err-run.field-0.0)) c.in_ok-script.ensures.script c.in_err-run.ensures)
 
 pub summary-requires : goal.summary-requires
 summary-requires c =
-    let k = c.in_ok-run_all.ensures in
-    let n = nodes_are c.in_ok-script.script.decls.list k.1.attached k.0 c.run_all.new.run.engine k.1.running in
-    (k.0, has_history _ k.1.attached k.0 c.run_all.new.run.engine k.1.running, n.0, n.1)
+    let k = c.in_ok-run.ensures in
+    let n = nodes_are c.in_ok-script.script.decls.list k.1.attached k.0 c.in_ok-run.run'.engine k.1.running in
+    (k.0, has_history _ k.1.attached k.0 c.in_ok-run.run'.engine k.1.running, n.0, n.1)
 
 pub returns-in_err-summary : goal.returns-in_err-summary
 returns-in_err-summary c =
@@ -54,16 +42,16 @@ returns-in_err-summary c =
     let done : c.from_residual-in_err-summary.result ≡ Err halts.NoMemory = cc in
     subst (λ (r : Result (List ℕ) Halt). HasSummed (workload c.args.seed c.args.size) r) (sym done)
     (subst (λ (s : Script). HasSummed s (Err halts.NoMemory)) c.in_ok-script.ensures.script
-    (ended_stops c.in_ok-script.script c.run_all.new.run.engine c.run_all.new.run.unmet c.in_ok-run_all.ensures))
+    (ended_stops c.in_ok-script.script c.in_ok-run.run'.engine c.in_ok-run.run'.unmet c.in_ok-run.ensures))
 
 pub returns : goal.returns
 returns c =
-    let k = c.in_ok-run_all.ensures in
+    let k = c.in_ok-run.ensures in
     let h = k.0 in
     let s_is = c.in_ok-script.ensures.script in
-    let held = has_history _ k.1.attached h c.run_all.new.run.engine k.1.running in
+    let held = has_history _ k.1.attached h c.in_ok-run.run'.engine k.1.running in
     let ds = c.in_ok-script.script.decls.list in
     let told = c.in_ok-summary.ensures h held ∙ ap (λ (t : List ℕ). t ++ summary_text ds h) c.new-text.ensures ∙ ap (λ (s : Script). summary_text s.decls.list h) s_is in
-    all_summed c.args.seed c.args.size c.run_all.new.run.engine c.run_all.new.run.unmet c.summary.new.out h
-    (subst (λ (s : Script). HasCome s _ h c.run_all.new.run.engine c.run_all.new.run.unmet) s_is k.1)
+    all_summed c.args.seed c.args.size c.in_ok-run.run'.engine c.in_ok-run.run'.unmet c.summary.new.out h
+    (subst (λ (s : Script). HasCome s _ h c.in_ok-run.run'.engine c.in_ok-run.run'.unmet) s_is k.1)
     told

@@ -1,7 +1,7 @@
 use Rattle.std.specs.Prelude.{◌≤◌, ◌-◌, List, drop, length}
 use Rattle.pr_story.specs.History.{NodeEntry}
 use Rattle.pr_top.specs.Progress.{HasCome}
-use Rattle.pr_top.proofs.generating.run_all.Given as goal
+use Rattle.pr_top.proofs.silent.run_all.Given as goal
 
 -- the commands before this place were run
 abbrev pub invariant-loop-at : goal.invariant-loop-at

@@ -1,12 +1,12 @@
-use Rattle.std.proofs.Common.{◌≡◌, ◌+◌, ◌≤◌, ◌∙◌, Err, List, Result, ap, arith, length, rules, subst, sym, ℕ}
+use Rattle.std.proofs.Common.{◌≡◌, ◌+◌, ◌≤◌, Err, List, Result, ap, arith, length, rules, subst, sym}
 use Rattle.std.specs.Prelude.{None}
 use Rattle.std.proofs.lemmas.Result.{err_from_is_err_and}
 use Rattle.pr_script.specs.Steps.{Numbered}
-use Rattle.pr_top.specs.Generated.{HasRunSo}
+use Rattle.pr_top.specs.Silent.{HasRunSo}
 use Rattle.pr_top.specs.declared.stepping.Halt.{Halt}
 use Rattle.pr_top.proofs.Runs.{halted_now, went_now}
-use Rattle.pr_top.proofs.Generated.{all_run, behind, silently}
-use Rattle.pr_top.proofs.generating.run_all.Goals as goal
+use Rattle.pr_top.proofs.SilentRuns.{all_run, behind, silently}
+use Rattle.pr_top.proofs.silent.run_all.Goals as goal
 
 pub returns-in_err-at : goal.returns-in_err-at
 returns-in_err-at c =
