@@ -1,9 +1,10 @@
 -- What wires tell, call after call.
 use Rattle.std.proofs.Common.{◌≡◌, ◌≤◌, ◌⊎◌, ◌+◌, ◌-◌, ℕ, List, [], ◌++◌, length, take, drop, Option, Some, None, IsSome, IsTrue, inl, inr, sym, ap, ◌∙◌, subst, append_assoc, arith}
-use Rattle.std.proofs.lemmas.List.{append-nil, length-append, length-drop, length-take, take_all}
+use Rattle.std.proofs.lemmas.List.{append-nil, length-append, length-drop, length-take, take-take, take_all}
 use Rattle.std.proofs.Math.Seq.{take-add}
+use Rattle.std.specs.Io.{StartsWith}
 use Rattle.pr_wires.specs.Calls.{Grows, HasJust, Shrinks, WireState}
-use Rattle.pr_flow.specs.Moving.{Moves, PassesThrough}
+use Rattle.pr_flow.specs.Moving.{Moves, MovesOther, PassesThrough}
 
 some_is : (x y : List ℕ) → x ≡ y → let a : Option (List ℕ) = Some x in let b : Option (List ℕ) = Some y in a ≡ b
 some_is x y e = ap (λ (t : List ℕ). let o : Option (List ℕ) = Some t in o) e
@@ -95,6 +96,13 @@ told_on (Some v) (Some w) put got p e = absurd (some_none e)
   where
     some_none : Some w ≡ None → ⊥
     some_none bad = cc
+
+-- other bytes than were put are no beginning of the message's either
+pub is_no_beginning : (a b : WireState) (sent got : List ℕ) → a.under ≡ 0 → MovesOther a b sent got → ¬ StartsWith sent got
+is_no_beginning a b sent got none (put, moves, front, other) starts =
+    let m = moves.under in
+    let fits : length got ≤ length put = omega arith in
+    other (ap (λ (xs : List ℕ). take (length got) xs) (sym front) ∙ take-take (length got) (length put) sent fits ∙ starts)
 
 -- ---- what the first call tells of the wire
 

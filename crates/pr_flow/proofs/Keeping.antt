@@ -68,7 +68,7 @@ module _ {A B : Type 0} (made_a : A → List Entry) (act_a : A → Call → Opti
   at_rest turns (Err fault) rest x y e = kept_same x.session y.session e.2.session
 
   on_the_way : (m : Msg) (end : Result FlowEnd NodeFault) (rest : Rest) (x y : Sides A B) → EndsOnTheWay made_a act_a made_b act_b m end rest x y → IsKept x.session y.session
-  on_the_way m (Ok (ends.Lied number sent got)) rest x y e = same_sides x y e.5
+  on_the_way m (Ok (ends.Lied number sent got)) rest x y e = same_sides x y e.3
   on_the_way m (Ok _) rest x y e = absurd e
   on_the_way m (Err fault) rest x y e = stuck m fault rest x y e
 

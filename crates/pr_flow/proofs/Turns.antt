@@ -189,12 +189,12 @@ module _ {A B : Type 0} (made_a : A → List Entry) (act_a : A → Call → Opti
         )
 
   module _ (s turns : ℕ) (a a1 : A) (b : B) (c c1 : SessionMeaning) (m : Msg) (g g1 t t1 : Option (List ℕ)) (time caller : ℕ) (some : 1 ≤ turns) (sendable : IsSendable s m) (turned : HasTurned made_a act_a a c (entry_of time caller (Sent m)) a1 c1) where
-    pub lied_ends : (put sent got : List ℕ) → sent ≡ spelling Two m → StartsWith sent put → ¬ StartsWith put got → Grows g g1 put → Grows t t1 got → SomeFlow made_a act_a made_b act_b s None turns (sides a b c) (sides a1 b c1) g g1 t t1 (Ok (ends.Lied m.number sent got))
+    pub lied_ends : (put sent got : List ℕ) → sent ≡ spelling Two m → StartsWith sent put → ¬ StartsWith sent got → Grows g g1 put → Grows t t1 got → SomeFlow made_a act_a made_b act_b s None turns (sides a b c) (sides a1 b c1) g g1 t t1 (Ok (ends.Lied m.number sent got))
     lied_ends put sent got is starts other given_grows taken_grows = (
       entry_of time caller (Sent m) ∷ [],
       record { put = put; got = got },
       record {
-        calls = (sides a1 b c1, (sides a1 b c1, (turned, refl), refl), (some, sendable.stream, sendable.kind, (refl, is, refl, starts, other, refl)));
+        calls = (sides a1 b c1, (sides a1 b c1, (turned, refl), refl), (some, sendable.stream, sendable.kind, ((refl, is, other), starts, refl, refl)));
         source = turned.made;
         destination = made_none made_b b b refl;
         given = given_grows;

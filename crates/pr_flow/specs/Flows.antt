@@ -18,6 +18,7 @@ use Rattle.pr_wires.specs.Calls.{Grows}
 use Rattle.pr_flow.specs.declared.flow_end.FlowEnd.{FlowEnd}
 use Rattle.pr_flow.specs.declared.flow_end.FlowEnd.TheVariants as ends
 use Rattle.pr_flow.specs.Calls.{Call, HasEnded, HasNotEnded, HasNotTaken, HasNotTurned, HasTaken, HasTurned}
+use Rattle.pr_flow.specs.Lies.{IsLieOf}
 use Rattle.pr_flow.specs.Moving.{IsPart}
 
 -- ---- entries
@@ -130,11 +131,10 @@ module _ {A B : Type 0} (made_a : A → List Entry) (act_a : A → Call → Opti
       × (y.source ≡ x.source))
       ⊎ (StartsWith (spelling Two m) rest.put × (fault ≡ NoMemory) × (y ≡ x)))
 
-  -- the message was sent, and its bytes put, or a beginning of them: other bytes were taken, or it is stuck
+  -- the message was sent, and its bytes put, or a beginning of them: bytes were taken that do not begin it, or it is stuck
   abbrev pub EndsOnTheWay : Msg → Result FlowEnd NodeFault → Rest → Sides A B → Sides A B → Type 0
   EndsOnTheWay m (Ok (ends.Lied number sent got)) rest x y =
-      (number ≡ m.number) × (sent ≡ spelling Two m) × (got ≡ rest.got) × StartsWith sent rest.put
-      × ¬ StartsWith rest.put got × (y ≡ x)
+      IsLieOf m number sent got × StartsWith sent rest.put × (got ≡ rest.got) × (y ≡ x)
   EndsOnTheWay m (Ok _) rest x y = ⊥
   EndsOnTheWay m (Err fault) rest x y = IsStuck m fault rest x y
 

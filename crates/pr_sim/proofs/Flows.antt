@@ -1,8 +1,7 @@
 -- A flow, turn by turn.
-use Rattle.std.proofs.Common.{◌≡◌, ◌≢◌, ℕ, ◌+◌, ◌-◌, ◌<◌, ◌≤◌, List, [], ◌∷◌, ◌++◌, Result, Ok, Err, IsErrAnd, inl, inr, refl, sym, ◌∙◌, ap, subst, cond, length, get_or, reverse, take, arith}
+use Rattle.std.proofs.Common.{◌≡◌, ◌≢◌, ℕ, ◌+◌, ◌-◌, ◌<◌, ◌≤◌, List, [], ◌∷◌, ◌++◌, Result, Ok, Err, IsErrAnd, inl, inr, refl, sym, ◌∙◌, ap, subst, cond, length, get_or, reverse, arith}
 use Rattle.std.specs.Prelude.{true, Bool, IsTrue, Some, None, Option}
-use Rattle.std.proofs.lemmas.List.{append_assoc, reverse-append, take-take}
-use Rattle.std.specs.Io.{StartsWith}
+use Rattle.std.proofs.lemmas.List.{append_assoc, reverse-append}
 use Rattle.std.proofs.lemmas.Result.{err_from_is_err_and}
 use Rattle.std.proofs.lemmas.Bool.Decides.{Decides-eqb}
 use Rattle.pr_inval.specs.declared.msg.Msg.{Msg}
@@ -15,7 +14,7 @@ use Rattle.pr_inval.specs.Standing.{Remembered}
 use Rattle.pr_inval.specs.Standing as session
 use Rattle.pr_flow.specs.declared.flow_end.FlowEnd.{FlowEnd}
 use Rattle.pr_flow.specs.declared.flow_end.FlowEnd.TheVariants as ends
-use Rattle.pr_flow.specs.Moving.{IsCut, MovesOther}
+use Rattle.pr_flow.specs.Moving.{IsCut}
 use Rattle.pr_node.specs.Calls.{Adds, IsDownFor, IsTaken}
 use Rattle.pr_node.specs.Stored.{Stored, means}
 use Rattle.pr_story.specs.declared.cause.Cause.{Cause}
@@ -194,13 +193,6 @@ sent_ends s left m made (ends.Lied number sent got) events turned ((rest, are), 
     ((rest, sent_more s left m made (events ++ rest) turned are), (msg, of, lie, (before, ap (λ (v : Event). v ∷ events) turned.0 ∙ is)))
 sent_ends s left m made ends.Stale events turned are = sent_more s left m made events turned are
 sent_ends s left m made (ends.Down cause) events turned are = sent_more s left m made events turned are
-
--- other bytes than were put are no beginning of the message's either
-pub is_no_beginning : (a b : WireState) (sent got : List ℕ) → a.under ≡ 0 → MovesOther a b sent got → ¬ StartsWith sent got
-is_no_beginning a b sent got none (put, moves, front, other) starts =
-    let m = moves.under in
-    let fits : length got ≤ length put = omega arith in
-    other (ap (λ (xs : List ℕ). take (length got) xs) (sym front) ∙ take-take (length got) (length put) sent fits ∙ starts)
 
 pub sent_begins : (s left : ℕ) (m : Msg) (made : NodeEntry) (events : List Event) → IsTurnMade s (steps.Sent m) made → IsBegun s (Some m) left events → IsBegun s None (left + 1) (made.entry.event ∷ events)
 sent_begins s left m made events turned (rest, are) = (rest, sent_more s left m made (events ++ rest) turned are)

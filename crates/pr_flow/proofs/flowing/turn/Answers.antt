@@ -7,6 +7,7 @@ use Rattle.pr_flow.specs.declared.carrying.Carried.{Carried}
 use Rattle.pr_flow.specs.Moving.{HasCarried}
 use Rattle.pr_flow.specs.Taking.{Takes}
 use Rattle.pr_flow.proofs.Answering.{cut_flows, has_made, is_fault, memory_flows, refused_flows, taken_flows}
+use Rattle.pr_flow.proofs.Growing.{is_no_beginning}
 use Rattle.pr_flow.proofs.Turns.{idle_leads, lied_ends, stale_ends}
 use Rattle.pr_flow.proofs.flowing.turn.Goals as goal
 
@@ -104,4 +105,4 @@ returns-clause-flowed g c turns some =
     let made = has_made x.made x.act y.made y.act c.args.source.now c.turn.new.self before after c.in_ok-turn.field-0 (steps.Sent m) e.made e.act c.in-Sent.is in
     let moved = subst (λ (k : Carried). HasCarried a d m k) c.in-Lied.is c.in_ok-msg.ensures.moved in
     let other = moved.1 in
-    lied_ends x.made x.act y.made y.act before.stream turns c.args.source.now c.turn.new.self c.args.dest.now before after m (w.state c.args.wire.now).given (w.state c.carry.new.wire).given (w.state c.args.wire.now).taken (w.state c.carry.new.wire).taken made.1.0 made.1.1 some made.0 made.1.2 other.0 c.in-Lied.sent c.in-Lied.got moved.0 other.2 other.3 other.1.given other.1.taken
+    lied_ends x.made x.act y.made y.act before.stream turns c.args.source.now c.turn.new.self c.args.dest.now before after m (w.state c.args.wire.now).given (w.state c.carry.new.wire).given (w.state c.args.wire.now).taken (w.state c.carry.new.wire).taken made.1.0 made.1.1 some made.0 made.1.2 other.0 c.in-Lied.sent c.in-Lied.got moved.0 other.2 (is_no_beginning a d c.in-Lied.sent c.in-Lied.got c.requires.under other) other.1.given other.1.taken

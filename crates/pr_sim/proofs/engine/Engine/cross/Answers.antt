@@ -3,11 +3,12 @@ use Rattle.std.specs.Prelude.{Some}
 use Rattle.pr_inval.specs.declared.msg.Msg.{Msg}
 use Rattle.pr_flow.specs.declared.carrying.Carried.{Carried}
 use Rattle.pr_flow.specs.Moving.{HasCarried}
+use Rattle.pr_flow.proofs.Growing.{is_no_beginning}
 use Rattle.pr_story.specs.Scripts.{events_of}
 use Rattle.pr_sim.specs.Commands.{Grows}
 use Rattle.pr_sim.specs.Flowing.{IsBegun, IsOnTheWay, TurnsEnd}
 use Rattle.pr_sim.proofs.Faults.{no_memory, stopped_same, this_cause}
-use Rattle.pr_sim.proofs.Flows.{cut_can, cut_is_no_gap, down_is, is_no_beginning, not_grown, sent_begun}
+use Rattle.pr_sim.proofs.Flows.{cut_can, cut_is_no_gap, down_is, not_grown, sent_begun}
 use Rattle.pr_sim.proofs.engine.Engine.cross.Goals as goal
 
 pub returns-in_err-msg-clause-flowed : goal.returns-in_err-msg-clause-flowed
