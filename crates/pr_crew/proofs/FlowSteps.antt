@@ -85,7 +85,7 @@ module _ (plan : Plan) (h : List NodeEntry) (s k : ℕ) where
 
   -- the destination made an entry, in a call that hears a time which is the session's
   pub destination_step : (x z : Sides AtCell AtCell) (p q : NodePass) (xs : List New) (e : Entry) (call : Call) → Sofar x p q xs → ((t : ℕ) → given call t ≡ given call 0) → acts x.destination call None z.destination
-      → made_through z.destination ≡ made_through x.destination ++ e ∷ [] → z.source ≡ x.source → HasStepped x.session z.session e
+      → made_through z.destination ≡ made_through x.destination ++ e ∷ [] → z.source ≡ x.source → (x.session.standing.time < e.time → HasStepped x.session z.session e)
       → IsOfFlow dst e.event → is_at_source e.event ≡ false → is_at_destination e.event ≡ true → heard_time (given call) e.event ≡ x.session.standing.time
       → ((t : ℕ) → IsTrue (is_with_session e.event t) → StandsFor plan (plain (reverse xs) ++ h) t (given call 0)) → HasCause (plain (reverse xs) ++ h) dst e.event
       → (q' : NodePass) × (u : New) × (u.made ≡ record { node = dst; entry = e }) × Sofar z p q' (xs ++ u ∷ []) × IsSameCaller q q'
@@ -105,7 +105,7 @@ module _ (plan : Plan) (h : List NodeEntry) (s k : ℕ) where
             cause = cause;
             session = with;
             needs = here.needs;
-            on = on;
+            on = on (after_time a e.time (last_time m.before) time);
             timed = here.timed;
             own = here.own;
             later = after_time a e.time (last_time m.before) time;

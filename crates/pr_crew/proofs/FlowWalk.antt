@@ -26,40 +26,40 @@ use Rattle.pr_crew.proofs.FlowMore.{Common}
 use Rattle.pr_crew.proofs.FlowSteps.{IsOfFlow, Sofar, dst, src}
 use Rattle.pr_crew.proofs.MadeMore.{made_still}
 
-same_caller : (p : NodePass) → IsSameCaller p p
+pub same_caller : (p : NodePass) → IsSameCaller p p
 same_caller p = record { number = refl; held = refl; issued = refl }
 
-then_same : (p q r : NodePass) → IsSameCaller p q → IsSameCaller q r → IsSameCaller p r
+pub then_same : (p q r : NodePass) → IsSameCaller p q → IsSameCaller q r → IsSameCaller p r
 then_same p q r a b = record { number = b.number ∙ a.number; held = b.held ∙ a.held; issued = b.issued ∙ a.issued }
 
 module _ (plan : Plan) (h : List NodeEntry) (s k : ℕ) where
   -- ---- what each event is
 
-  same : (t : ℕ) → t ≡ s → nat_eq t s ≡ true
+  pub same : (t : ℕ) → t ≡ s → nat_eq t s ≡ true
   same t is = (Decides-eqb t s).1 is
 
-  sent_is : (m : Msg) → m.stream ≡ s → IsOfFlow plan h s k (src plan h s k) (Sent m)
+  pub sent_is : (m : Msg) → m.stream ≡ s → IsOfFlow plan h s k (src plan h s k) (Sent m)
   sent_is m is = record { timed = same m.stream is; own = (same m.stream is, tt); needs = λ c. refl; placed = λ g. ap (λ (t : ℕ). (plan.stream t).source) (sym is) }
 
-  idle_is : (t : ℕ) → t ≡ s → IsOfFlow plan h s k (src plan h s k) (Idle t)
+  pub idle_is : (t : ℕ) → t ≡ s → IsOfFlow plan h s k (src plan h s k) (Idle t)
   idle_is t is = record { timed = same t is; own = (same t is, tt); needs = λ c. refl; placed = λ g. ap (λ (t : ℕ). (plan.stream t).source) (sym is) }
 
-  stale_is : (t : ℕ) (cut : List ℕ) → t ≡ s → IsOfFlow plan h s k (src plan h s k) (Stale t cut)
+  pub stale_is : (t : ℕ) (cut : List ℕ) → t ≡ s → IsOfFlow plan h s k (src plan h s k) (Stale t cut)
   stale_is t cut is = record { timed = same t is; own = (same t is, tt); needs = λ c. refl; placed = λ g. ap (λ (t : ℕ). (plan.stream t).source) (sym is) }
 
-  accepted_is : (m : Msg) (at : List ℕ) → m.stream ≡ s → IsOfFlow plan h s k (dst plan h s k) (Accepted m at)
+  pub accepted_is : (m : Msg) (at : List ℕ) → m.stream ≡ s → IsOfFlow plan h s k (dst plan h s k) (Accepted m at)
   accepted_is m at is = record { timed = same m.stream is; own = (same m.stream is, tt); needs = λ c. refl; placed = λ g. ap (λ (t : ℕ). (plan.stream t).destination) (sym is) }
 
-  gapped_is : (m : Msg) (has : List ℕ) → m.stream ≡ s → IsOfFlow plan h s k (dst plan h s k) (Gapped m has)
+  pub gapped_is : (m : Msg) (has : List ℕ) → m.stream ≡ s → IsOfFlow plan h s k (dst plan h s k) (Gapped m has)
   gapped_is m has is = record { timed = same m.stream is; own = (same m.stream is, tt); needs = λ c. refl; placed = λ g. ap (λ (t : ℕ). (plan.stream t).destination) (sym is) }
 
-  down_is : (t : ℕ) (cause : Cause) → t ≡ s → IsOfFlow plan h s k (dst plan h s k) (Down t cause)
+  pub down_is : (t : ℕ) (cause : Cause) → t ≡ s → IsOfFlow plan h s k (dst plan h s k) (Down t cause)
   down_is t cause is = record { timed = same t is; own = (same t is, tt); needs = λ c. refl; placed = λ g. ap (λ (t : ℕ). (plan.stream t).destination) (sym is) }
 
   -- ---- where a walk ends
 
   -- from these entries on the flow made more, gave these events and ended so
-  pub record Walked (p q : NodePass) (xs : List New) (y : Sides AtCell AtCell) (end : Result FlowEnd NodeFault) (events : List Event) : Type 0 where
+  pub record Walked (x : Sides AtCell AtCell) (p q : NodePass) (xs : List New) (y : Sides AtCell AtCell) (end : Result FlowEnd NodeFault) (events : List Event) : Type 0 where
     pub source : NodePass
     pub destination : NodePass
     pub made : List New
@@ -67,10 +67,12 @@ module _ (plan : Plan) (h : List NodeEntry) (s k : ℕ) where
     pub gives : events_of (plain made) ≡ events_of (plain xs) ++ events
     pub same_source : IsSameCaller p source
     pub same_destination : IsSameCaller q destination
+    pub source_cell : y.source.cell ≡ x.source.cell
+    pub destination_cell : y.destination.cell ≡ x.destination.cell
     pub lied : FlowLied plan h s made end
     pub failed : FlowFailed plan h s source destination made end
 
-  stays : (x y : Sides AtCell AtCell) (p q : NodePass) (xs : List New) (end : Result FlowEnd NodeFault) → Sofar plan h s k x p q xs → y ≡ x → FlowLied plan h s xs end → FlowFailed plan h s p q xs end → Walked p q xs y end []
+  pub stays : (x y : Sides AtCell AtCell) (p q : NodePass) (xs : List New) (end : Result FlowEnd NodeFault) → Sofar plan h s k x p q xs → y ≡ x → FlowLied plan h s xs end → FlowFailed plan h s p q xs end → Walked x p q xs y end []
   stays x y p q xs end f is lied failed = record {
     source = p;
     destination = q;
@@ -79,6 +81,8 @@ module _ (plan : Plan) (h : List NodeEntry) (s k : ℕ) where
     gives = sym (append-nil (events_of (plain xs)));
     same_source = same_caller p;
     same_destination = same_caller q;
+    source_cell = ap (λ (z : Sides AtCell AtCell). z.source.cell) is;
+    destination_cell = ap (λ (z : Sides AtCell AtCell). z.destination.cell) is;
     lied = lied;
     failed = failed;
   }
@@ -107,7 +111,7 @@ module _ (plan : Plan) (h : List NodeEntry) (s k : ℕ) where
   worn_by n at NoMemory p q f = tt
   worn_by n at (Worn w) p q f = (f.cause.0, (f.before ++ f.others, f.now, f.cause.1))
 
-  no_memory : (C : Type 0) (fault : NodeFault) → fault ≡ NoMemory → IsFaultFor C fault
+  pub no_memory : (C : Type 0) (fault : NodeFault) → fault ≡ NoMemory → IsFaultFor C fault
   no_memory C NoMemory is = tt
   no_memory C (Worn at) is = absurd (cc)
 
@@ -144,7 +148,7 @@ module _ (plan : Plan) (h : List NodeEntry) (s k : ℕ) where
 
   -- the source refused a turn
   pub not_turned : (x y : Sides AtCell AtCell) (p q : NodePass) (xs : List New) (fault : NodeFault) → Sofar plan h s k x p q xs → HasNotTurned made_through acts x.source x.session fault y.source y.session → y.destination ≡ x.destination
-      → Walked p q xs y (Err fault) []
+      → Walked x p q xs y (Err fault) []
   not_turned x y p q xs fault f t still =
       let r = refused (src plan h s k) (Turning x.session y.session) fault x.source y.source p (at_source xs) f.has_source f.source_cell t.act f.source_made in
       record {
@@ -163,13 +167,15 @@ module _ (plan : Plan) (h : List NodeEntry) (s k : ℕ) where
         gives = sym (append-nil (events_of (plain xs)));
         same_source = r.same;
         same_destination = same_caller q;
+        source_cell = t.act.0;
+        destination_cell = ap (λ (z : AtCell). z.cell) still;
         lied = tt;
         failed = fault_left _ _ fault (subst (λ (t : ℕ). IsFaultFor (IsWornAt plan h (src plan h s k) (λ a. IsTimeWorn a t) r.pass) fault) (heard_is x.session xs f.common) r.worn);
       }
 
   -- the destination refused a call, in which it hears the session's time
   pub not_taken : (x y : Sides AtCell AtCell) (p q : NodePass) (xs : List New) (call : Call) (fault : NodeFault) → Sofar plan h s k x p q xs → acts x.destination call (Some fault) y.destination → IsSameSession x.session y.session
-      → heard call ≡ x.session.standing.time → y.source ≡ x.source → Walked p q xs y (Err fault) []
+      → heard call ≡ x.session.standing.time → y.source ≡ x.source → Walked x p q xs y (Err fault) []
   not_taken x y p q xs call fault f act kept time still =
       let r = refused (dst plan h s k) call fault x.destination y.destination q (at_destination xs) f.has_destination f.destination_cell act f.destination_made in
       record {
@@ -188,6 +194,8 @@ module _ (plan : Plan) (h : List NodeEntry) (s k : ℕ) where
         gives = sym (append-nil (events_of (plain xs)));
         same_source = same_caller p;
         same_destination = r.same;
+        source_cell = ap (λ (z : AtCell). z.cell) still;
+        destination_cell = act.0;
         lied = tt;
         failed = fault_right _ _ fault (subst (λ (t : ℕ). IsFaultFor (IsWornAt plan h (dst plan h s k) (λ a. IsTimeWorn a t) r.pass) fault) (time ∙ heard_is x.session xs f.common) r.worn);
       }

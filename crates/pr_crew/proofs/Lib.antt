@@ -10,3 +10,5 @@ pub mod Assembly
 pub mod FlowMore
 pub mod FlowSteps
 pub mod FlowWalk
+pub mod FlowEvents
+pub mod FlowEnding

@@ -2,7 +2,7 @@
 use Rattle.std.proofs.Common.{◌≡◌, ◌≢◌, ◌⊎◌, ℕ, List, [], ◌∷◌, ◌++◌, Contains, inl, inr, refl, sym, ap, ◌∙◌, subst, eqb, cond, append-nil}
 use Rattle.std.specs.Prelude.{Bool}
 use mathlib.Core.List.{head-eq_of_cons-eq, tail-eq_of_cons-eq}
-use Rattle.std.proofs.lemmas.List.Elements.{All-contains, Contains-append_left, Contains-append_right, filter-append}
+use Rattle.std.proofs.lemmas.List.Elements.{All-contains, All-push, Contains-append_left, Contains-append_right, filter-append}
 use Rattle.std.proofs.lemmas.Bool.Decides.{Decides-eqb}
 use Rattle.pr_cell.proofs.Basics.{filter_none}
 use Rattle.pr_inval.specs.declared.node_fault.NodeFault.{NodeFault}
@@ -71,6 +71,7 @@ made_still plan h n Cause fault p q xs f m =
     record {
       all = f.before ++ f.others;
       seen = f.now;
+      here = m.here;
       own_are = ap (λ (j : ℕ). own j (f.before ++ f.others)) f.same.number ∙ own_others k f.before f.others f.apart ∙ ap (own k) (sym same) ∙ m.own_are;
       each = λ before e after is by. each before e after is (by ∙ f.same.number);
     }
@@ -87,6 +88,7 @@ made_more plan h n p q xs x P f is m =
     record {
       all = all ++ f.entry ∷ [];
       seen = f.now;
+      here = All-push (λ y. y.made.node ≡ n) xs x m.here (ap (λ (e : NodeEntry). e.node) is);
       own_are = ap (λ (j : ℕ). own j (all ++ f.entry ∷ [])) f.same.number ∙ own_one k all f.entry f.by
           ∙ ap (λ (l : List Entry). l ++ f.entry ∷ []) (own_others k f.before f.others f.apart ∙ ap (own k) (sym same) ∙ m.own_are)
           ∙ ap (λ (e : NodeEntry). just xs ++ e.entry ∷ []) (sym is) ∙ sym (just_append xs (x ∷ []));

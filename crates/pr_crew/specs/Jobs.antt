@@ -54,6 +54,7 @@ module _ (plan : Plan) (h : List NodeEntry) where
   pub record MadeAt (n : ℕ) (p : NodePass) (xs : List New) : Type 0 where
     pub all : List Entry
     pub seen : HasSeen p all
+    pub here : All (λ x. x.made.node ≡ n) xs
     pub own_are : own p.number all ≡ just xs
     pub each : (before : List Entry) (e : Entry) (after : List Entry) → all ≡ before ++ e ∷ after → e.caller ≡ p.number
         → (x : New) × Contains xs x × IsNew n before e x

@@ -1,10 +1,12 @@
 // A flow's job.
 ghost use Rattle.pr_crew.specs.Acting.{acts, made_through};
+ghost use Rattle.pr_crew.specs.Flowing.{FlowBegins, FlowEnds};
 ghost use Rattle.pr_flow.specs.Calls.{IsKept};
 ghost use Rattle.pr_flow.specs.Ending.{EndsByWire};
 ghost use Rattle.pr_flow.specs.Flows.{Flows, Sides};
 ghost use Rattle.pr_inval.specs.Standing.{means};
-ghost use Rattle.std.specs.Prelude.{◌≡◌, IsTrue};
+ghost use Rattle.pr_story.specs.History.{NodeEntry, Plan};
+ghost use Rattle.std.specs.Prelude.{ℕ, List, ◌≡◌, IsTrue};
 
 use crate::Gate;
 use crate::cell_side::CellSide;
@@ -30,6 +32,7 @@ pub(crate) fn flow_job<R: Wait, G: Gate, W: Wire>(
     requires attached { IsTrue (means session.old).attached }
     requires under { (W.state wire.old).under ≡ 0 }
     ensures flowed { Flows made_through acts made_through acts (means session.old).stream turns (record { source = source.old; destination = dest.old; session = means session.old }) (record { source = source.new; destination = dest.new; session = means session.new }) (W.state wire.old).given (W.state wire.new).given (W.state wire.old).taken (W.state wire.new).taken result }
+    ensures done { (plan : Plan) (h : List NodeEntry) (s k : ℕ) → FlowBegins plan h s source.old dest.old session.old → FlowEnds plan h s turns k source.old dest.old source.new dest.new session.new result }
     ensures session { IsKept (means session.old) (means session.new) }
     ensures wire { EndsByWire (W.state wire.old) (W.state wire.new) result }
 {
