@@ -60,6 +60,10 @@ pub record IsMade (bytes : List ℕ) (changes : List Change) : Type 0 where
   pub reads : bytes ≡ reads_of changes
   pub undo : CanUndo changes
 
+-- no more calls answered Ok than it answers
+abbrev pub IsWithin : Memory → Type 0
+IsWithin m = m.good ≤ lasts_of m.stop
+
 abbrev pub new_memory : ℕ → Memory
 new_memory stop = record { changes = []; stop = stop; good = 0; faults = 0 }
 

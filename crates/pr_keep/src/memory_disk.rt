@@ -1,7 +1,7 @@
 // A disk in memory, which stops where it is told to.
 ghost use Rattle.pr_keep.specs.Disk.{IsFrom, counted};
-ghost use Rattle.pr_keep.specs.Memory.{IsImage, WasImage, image_of, image_was, lasts_of, new_memory, only_image, reads_as_image, reads_of, state_of};
-ghost use Rattle.std.specs.Prelude.{◌≡◌, ◌<◌, ◌^◌, ◌↔◌, length, IsTrue};
+ghost use Rattle.pr_keep.specs.Memory.{IsImage, IsWithin, WasImage, image_of, image_was, lasts_of, new_memory, only_image, reads_as_image, reads_of, state_of};
+ghost use Rattle.std.specs.Prelude.{◌≡◌, ◌≢◌, ◌<◌, ◌^◌, ◌↔◌, length, IsTrue};
 
 use crate::change::{Change, overwrite, undo_all};
 use crate::{Disk, DiskFault};
@@ -21,14 +21,14 @@ pub struct MemoryDisk {
 }
 
 impl Model for MemoryDisk {
-    ghost use Rattle.std.specs.Prelude.{reverse};
-    ghost use Rattle.pr_keep.specs.Memory.{IsMade, Memory};
+    ghost use Rattle.std.specs.Prelude.{◌≤◌, reverse};
+    ghost use Rattle.pr_keep.specs.Memory.{IsMade, Memory, lasts_of};
 
     ghost Value = { Memory };
 
     ghost view = { λ d. record { changes = reverse d.changes.items; stop = d.stop; good = d.good; faults = d.faults } };
 
-    ghost invariant = { λ d. IsMade d.bytes.items (reverse d.changes.items) };
+    ghost invariant = { λ d. IsMade d.bytes.items (reverse d.changes.items) × (d.good ≤ lasts_of d.stop) };
 }
 
 impl MemoryDisk {
@@ -67,8 +67,17 @@ impl MemoryDisk {
         }
     }
 
-    // Counts a call that answers.
+    /// How many calls answered Ok: never more than it was told to answer.
+    pub fn good(&self) -> u64
+        ensures value { result ≡ self.now.good }
+        ensures within { IsWithin self.now }
+    {
+        self.good
+    }
+
+    // Counts a call that answers, where the disk has not stopped.
     fn count_good(&mut self)
+        requires { self.old.good ≢ lasts_of self.old.stop }
         ensures { self.new ≡ record self.old { good = counted self.old.good 1 } }
     {
         self.good = self.good.saturating_add(1);

@@ -28,3 +28,5 @@ pub mod Snapshots
 pub mod Starts
 pub mod Begun
 pub mod OfClients
+pub mod Rebuilt
+pub mod Again

@@ -7,3 +7,4 @@ pub mod Taking
 pub mod Quiet
 pub mod Calls
 pub mod Sending
+pub mod Rebuilding

@@ -45,6 +45,20 @@ impl Diary {
         }
     }
 
+    // What a node has done up to now.
+    pub fn of(journal: Journal) -> Diary
+        requires { last_time (reverse journal.items) ≤ 4611686018427387903 }
+        ensures items { result.entries.items ≡ journal.items }
+        ensures works { result.spent ≡ false }
+    {
+        let last = last_of(journal.entries());
+        Diary {
+            journal,
+            last,
+            spent: false,
+        }
+    }
+
     pub fn journal(&self) -> &Journal
         ensures { result.now ≡ self.now.entries }
     {
@@ -115,6 +129,16 @@ impl Diary {
             has: *has,
         };
         self.finish(time, caller, event);
+    }
+}
+
+// The time of the last entry, or 0 where there is none.
+fn last_of(entries: &[Entry]) -> u64
+    ensures { result ≡ last_time (reverse entries.now) }
+{
+    match entries.last() {
+        Some(entry) => entry.time,
+        None => 0,
     }
 }
 

@@ -5,8 +5,10 @@ mod ahead;
 mod answering;
 mod answers;
 mod diary;
+mod law;
 mod node;
 mod ranges;
+mod rebuilding;
 mod standing;
 mod starting;
 mod stores;
@@ -18,6 +20,7 @@ mod waiting_bodies;
 mod writing;
 
 pub use answers::{Answer, Done, Seen};
+pub use law::lawful_journals_can_be_rebuilt;
 pub use node::Node;
 pub use pr_inval::{NodeFault, Step, Taken};
 pub use stores::Stores;

@@ -6,6 +6,7 @@ ghost use Rattle.pr_inval.specs.declared.node_fault.NodeFault.TheVariants as fau
 ghost use Rattle.pr_node.specs.Answering.{IsAnswerAt, reply_of};
 ghost use Rattle.pr_node.specs.Calls.{AddsAlone, AddsOfClient, AddsOfStream, IsAttachedAt, IsCheckpointSent, IsDone, IsDownFor, IsFault, IsMissed, IsMoveOf, IsSeen, IsStateEvent, IsStep, IsTaken, IsTimeWorn, IsWriteWorn};
 ghost use Rattle.pr_node.specs.Grammar.{IsStepSpelled};
+ghost use Rattle.pr_node.specs.Rebuilding.{IsOfNode};
 ghost use Rattle.pr_node.specs.Stored.{means};
 ghost use Rattle.pr_sets.specs.Sets.{AreApart};
 ghost use Rattle.pr_story.specs.History.{current_vector};
@@ -18,6 +19,7 @@ ghost use Rattle.pr_story.specs.Sessions.{HasGoneOn};
 use crate::answering::{answer, copy, found, replies};
 use crate::diary::Diary;
 use crate::ranges::{bytes_in_range, msg_in_range};
+use crate::rebuilding::rebuilt;
 use crate::standing::precise;
 use crate::starting::{snapshot, start};
 use crate::taking::{gap, take};
@@ -86,6 +88,28 @@ impl Node {
             alloc,
             id,
             diary: Diary::new(alloc),
+            stores,
+        })
+    }
+
+    /// The node that did this: it answers and sends as the node did whose journal this is. It takes the time that the
+    /// writes, the messages, the cuts and the drops took, and no entry is copied. A refusal leaves nothing.
+    pub fn rebuild(
+        alloc: Global,
+        id: u32,
+        sets: Seq<NameSet>,
+        journal: Journal,
+    ) -> Result<Node, NoMemory>
+        requires id { id < 32 }
+        requires apart { AreApart sets }
+        requires told { IsOfNode id (reverse journal.items) }
+        ensures { IfOk result (λ node. means node ≡ record { id = id; sets = sets; journal = reverse journal.items; spent = false }) }
+    {
+        let stores = rebuilt(alloc, id, sets, journal.entries())?;
+        Ok(Node {
+            alloc,
+            id,
+            diary: Diary::of(journal),
             stores,
         })
     }

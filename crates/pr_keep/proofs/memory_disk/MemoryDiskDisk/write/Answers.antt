@@ -8,7 +8,7 @@ use Rattle.pr_keep.proofs.memory_disk.MemoryDiskDisk.write.Goals as goal
 
 pub overwrite-requires : goal.overwrite-requires
 overwrite-requires c = record {
-  place = subst (λ (t : List ℕ). c.args.at ≤ length t) (ap (λ (m : Memory). reads_of m.changes) (sym c.self.view_is) ∙ sym c.self.invariant.reads) c.requires;
+  place = subst (λ (t : List ℕ). c.args.at ≤ length t) (ap (λ (m : Memory). reads_of m.changes) (sym c.self.view_is) ∙ sym c.self.invariant.0.reads) c.requires;
 }
 
 pub returns-in_err-overwrite-clause-images : goal.returns-in_err-overwrite-clause-images
@@ -17,9 +17,11 @@ returns-in_err-overwrite-clause-images c = λ image now.
     same_images c.args.at (length c.args.piece.now) c.args.self.now.changes image (subst (λ (l : List Change). IsImage l image) same now)
 
 pub invariant_of-self-2 : goal.invariant_of-self-2
-invariant_of-self-2 c =
-    still_made c.self.inside.bytes.items c.overwrite.new.bytes.items c.self.inside.changes.items c.overwrite.new.changes.items c.args.at c.args.piece.now
-    c.self.invariant (subst (λ (t : List ℕ). c.args.at ≤ length t) (ap (λ (m : Memory). reads_of m.changes) (sym c.self.view_is) ∙ sym c.self.invariant.reads) c.requires) c.in_ok-overwrite.ensures.ok
+invariant_of-self-2 c = (
+  still_made c.self.inside.bytes.items c.overwrite.new.bytes.items c.self.inside.changes.items c.overwrite.new.changes.items c.args.at c.args.piece.now
+      c.self.invariant.0 (subst (λ (t : List ℕ). c.args.at ≤ length t) (ap (λ (m : Memory). reads_of m.changes) (sym c.self.view_is) ∙ sym c.self.invariant.0.reads) c.requires) c.in_ok-overwrite.ensures.ok,
+  c.self.invariant.1,
+)
 
 pub returns-clause-images : goal.returns-clause-images
 returns-clause-images c = λ image now.

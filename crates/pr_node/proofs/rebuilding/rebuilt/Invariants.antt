@@ -1,0 +1,10 @@
+use Rattle.std.specs.Prelude.{◌≡◌, reverse, take}
+use Rattle.pr_node.specs.Ties.{IsTied}
+use Rattle.pr_node.proofs.rebuilding.rebuilt.Given as goal
+
+-- the stores are those after the entries before this place
+abbrev pub invariant-loop-entry : goal.invariant-loop-entry
+invariant-loop-entry l = record {
+  tied : IsTied l.fn.id (reverse (take l.entry-index l.fn.entries)) l.stores;
+  sets : l.stores.gaps.sets ≡ l.fn.sets;
+}
