@@ -1,6 +1,6 @@
 -- How a server goes on, and how it ends.
 use Rattle.std.proofs.Common.{◌≡◌, ◌≤◌, ◌+◌, ℕ, List, [], ◌∷◌, ◌++◌, length, Option, Result, Err, refl, sym, ap, subst, ◌∙◌, append_assoc, arith, inl, inr}
-use Rattle.std.specs.Io.KnownBytes.{Consumes}
+use Rattle.std.specs.Io.KnownBytes.{Consumes, prepend_known}
 use Rattle.std.proofs.lemmas.List.{append-nil, length-append}
 use Rattle.pr_names.specs.Span.{Span}
 use Rattle.pr_node.specs.Stored.{NodeMeaning}
@@ -18,7 +18,7 @@ use Rattle.pr_serve.specs.Inputs.{Held, Input, IsOver, NoneBegins, NoneStands, S
 use Rattle.pr_serve.specs.Output.{AreOutputs, IsOutput, begun}
 use Rattle.pr_serve.specs.Serving.{BreaksBy, HasServed, ServedAll, Server, ServesSo}
 use Rattle.pr_serve.specs.Sinks.{Sink, Wrote}
-use Rattle.pr_serve.proofs.PullEnds.{nothing_held}
+use Rattle.pr_serve.proofs.PullEnds.{read_ahead}
 use Rattle.pr_serve.proofs.Taking.{read_so_far, risen_then, takes_none, takes_then}
 use Rattle.pr_serve.proofs.Written.{wrote_none, wrote_then}
 
@@ -62,9 +62,9 @@ pub record Sofar (x y : Input) (a b : NodeMeaning) (u v : Sink) (count : ℕ) : 
 pub nothing_served : (x : Input) (a : NodeMeaning) (u : Sink) → Sofar x x a a u u 0
 nothing_served x a u = record { asks = []; all = tt; taken = takes_none x; text = []; outputs = (refl, refl); wrote = wrote_none u; same_id = refl; same_sets = refl; is_count = refl }
 
-module _ (left left_now : Option (List ℕ)) (fault fault_now : ℕ) (held : Held) (a b : NodeMeaning) (u v : Sink) (count : ℕ) where
+module _ (first : List ℕ) (left left_now : Option (List ℕ)) (fault fault_now : ℕ) (held : Held) (a b : NodeMeaning) (u v : Sink) (count : ℕ) where
   abbrev at_start : Input
-  at_start = input left fault nothing_held
+  at_start = input left fault (read_ahead first)
 
   abbrev here : Input
   here = input left_now fault_now held
@@ -95,16 +95,16 @@ module _ (left left_now : Option (List ℕ)) (fault fault_now : ℕ) (held : Hel
       abbrev at_end : Input
       at_end = input left_end fault_end held_end
 
-      read_with : (bytes : List ℕ) → Takes here at_end bytes → Consumes left left_end (asks_text sofar.asks ++ (bytes ++ held_end.bytes))
+      read_with : (bytes : List ℕ) → Takes here at_end bytes → Consumes (prepend_known first left) left_end (asks_text sofar.asks ++ (bytes ++ held_end.bytes))
       read_with bytes taken =
-          subst (λ (t : List ℕ). Consumes left left_end t) (append_assoc (asks_text sofar.asks) bytes held_end.bytes)
-          (read_so_far left left_end held_end.bytes (asks_text sofar.asks ++ bytes) (takes_then at_start here at_end (asks_text sofar.asks) bytes sofar.taken taken).ahead)
+          subst (λ (t : List ℕ). Consumes (prepend_known first left) left_end t) (append_assoc (asks_text sofar.asks) bytes held_end.bytes)
+          (read_so_far (prepend_known first left) left_end held_end.bytes (asks_text sofar.asks ++ bytes) (takes_then at_start here at_end (asks_text sofar.asks) bytes sofar.taken taken).ahead)
 
       abbrev server_of : Option (List ℕ) → ℕ → Sink → NodeMeaning → Server
       server_of l f s node = record { left = l; faults = f; sink = s; node = node }
 
       abbrev before : Server
-      before = server_of left fault u a
+      before = server_of (prepend_known first left) fault u a
 
       served : (bytes : List ℕ) → Takes here at_end bytes → HasServed before (server_of left_end fault_end v b) sofar.asks (bytes ++ held_end.bytes)
       served bytes taken = record {

@@ -1,5 +1,5 @@
 -- Bytes that are taken off an input, one after the other.
-use Rattle.std.proofs.Common.{◌≤◌, ℕ, List, [], ◌∷◌, ◌++◌, Option, Some, None, Result, Ok, Err, refl, sym, ap, subst, ◌∙◌, append_assoc, arith, inl, inr}
+use Rattle.std.proofs.Common.{◌≡◌, ◌≤◌, ℕ, List, [], ◌∷◌, ◌++◌, Option, Some, None, Result, Ok, Err, refl, sym, ap, subst, ◌∙◌, append_assoc, arith, inl, inr}
 use Rattle.std.specs.Io.KnownBytes.{Consumes, prepend_known}
 use Rattle.std.proofs.lemmas.List.{append-nil, length-append}
 use Rattle.pr_ports.specs.Faults.{HasRisen}
@@ -55,10 +55,15 @@ module _ (IsText IsUnderWay : List ℕ → Type 0) where
 -- ---- what was read
 
 -- what was taken of an input and what is held of it, is what was read
-pub read_so_far : (left now : Option (List ℕ)) (held bytes : List ℕ) → Consumes (prepend_known [] left) (prepend_known held now) bytes → Consumes left now (bytes ++ held)
+pub read_so_far : (left now : Option (List ℕ)) (held bytes : List ℕ) → Consumes left (prepend_known held now) bytes → Consumes left now (bytes ++ held)
 read_so_far None now held bytes p = tt
 read_so_far (Some x) None held bytes p = absurd p
 read_so_far (Some x) (Some y) held bytes p = p ∙ sym (append_assoc bytes held y)
+
+-- nothing was read ahead
+pub none_ahead : (left : Option (List ℕ)) → prepend_known [] left ≡ left
+none_ahead None = refl
+none_ahead (Some x) = refl
 
 -- a byte that was taken, or none, after a read
 pub taken_after : (a b c : Input) (r : Result (Option ℕ) Stop) → Takes a b [] → IsNextByte b c r → IsNextByte a c r

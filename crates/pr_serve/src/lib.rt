@@ -22,7 +22,7 @@ pub use law::{
     asks_have_one_spelling, honest_messages_stay_closed, new_entries_come_last,
     no_ask_begins_another, pulled_messages_keep_valid,
 };
-pub use pulling::pull;
+pub use pulling::{pull, pull_rest};
 pub use serve_fault::ServeFault;
-pub use serving::serve;
+pub use serving::{serve, serve_rest};
 pub use window::MOST_BYTES;

@@ -2,7 +2,8 @@
 ghost use Rattle.pr_node.specs.Stored.{means};
 ghost use Rattle.pr_inval.specs.Messages.{IsMessage};
 ghost use Rattle.pr_serve.specs.Pulling.{PullsSo, TakesOne};
-ghost use Rattle.std.specs.Prelude.{◌≤◌};
+ghost use Rattle.std.specs.Io.KnownBytes.{prepend_known};
+ghost use Rattle.std.specs.Prelude.{◌≤◌, length};
 
 use crate::framing::{Part, next_part};
 use crate::serve_fault::ServeFault;
@@ -30,7 +31,23 @@ pub fn pull<S: Source>(
     ensures so { PullsSo nodes streams.now (record { left = S.left source.old; faults = S.faults source.old; node = means node.old }) (record { left = S.left source.new; faults = S.faults source.new; node = means node.new }) result }
     ensures rises { S.faults source.old ≤ S.faults source.new }
 {
-    let mut window = Window::new();
+    pull_rest(alloc, node, nodes, streams, &[], source)
+}
+
+/// Gives a node, as `pull` does, the messages of an input of which these bytes, at most 4,096, were read ahead.
+pub fn pull_rest<S: Source>(
+    alloc: Global,
+    node: &mut Node,
+    nodes: u32,
+    streams: &[u32],
+    ahead: &[u8],
+    source: &mut S,
+) -> Result<u64, ServeFault>
+    requires { length ahead.now ≤ 4096 }
+    ensures so { PullsSo nodes streams.now (record { left = prepend_known ahead.now (S.left source.old); faults = S.faults source.old; node = means node.old }) (record { left = S.left source.new; faults = S.faults source.new; node = means node.new }) result }
+    ensures rises { S.faults source.old ≤ S.faults source.new }
+{
+    let mut window = Window::new(ahead);
     let mut count = 0;
     loop {
         let at = window.taken();

@@ -2,7 +2,8 @@
 ghost use Rattle.pr_node.specs.Stored.{means};
 ghost use Rattle.pr_serve.specs.Serving.{ServesSo};
 ghost use Rattle.pr_serve.specs.Sinks.{sink};
-ghost use Rattle.std.specs.Prelude.{◌≤◌};
+ghost use Rattle.std.specs.Io.KnownBytes.{prepend_known};
+ghost use Rattle.std.specs.Prelude.{◌≤◌, length};
 
 use crate::answering::answer;
 use crate::asking::next_ask;
@@ -26,7 +27,22 @@ pub fn serve<S: Source, K: Sink>(
     ensures so { ServesSo (record { left = S.left source.old; faults = S.faults source.old; sink = sink (K.text out.old) (K.faults out.old); node = means node.old }) (record { left = S.left source.new; faults = S.faults source.new; sink = sink (K.text out.new) (K.faults out.new); node = means node.new }) result }
     ensures rises { S.faults source.old ≤ S.faults source.new }
 {
-    let mut window = Window::new();
+    serve_rest(alloc, node, &[], source, out)
+}
+
+/// Serves, as `serve` does, an input of which these bytes, at most 4,096, were read ahead.
+pub fn serve_rest<S: Source, K: Sink>(
+    alloc: Global,
+    node: &mut Node,
+    ahead: &[u8],
+    source: &mut S,
+    out: &mut K,
+) -> Result<u64, ServeFault>
+    requires { length ahead.now ≤ 4096 }
+    ensures so { ServesSo (record { left = prepend_known ahead.now (S.left source.old); faults = S.faults source.old; sink = sink (K.text out.old) (K.faults out.old); node = means node.old }) (record { left = S.left source.new; faults = S.faults source.new; sink = sink (K.text out.new) (K.faults out.new); node = means node.new }) result }
+    ensures rises { S.faults source.old ≤ S.faults source.new }
+{
+    let mut window = Window::new(ahead);
     let mut count = 0;
     loop {
         let at = window.taken();

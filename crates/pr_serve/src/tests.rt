@@ -1,4 +1,4 @@
-use crate::{Ask, ServeFault, pull, serve};
+use crate::{Ask, ServeFault, pull, pull_rest, serve, serve_rest};
 use pr_inval::Bytes;
 use pr_names::Name;
 use pr_node::Node;
@@ -111,5 +111,33 @@ fn answers_are_pulled(rt: HostRuntime) -> Result<(), Fail> {
         pulled(alloc, 0, &ANSWER, &[9])?,
         (Err(ServeFault::ReadFault), 1)
     );
+    Ok(())
+}
+
+// Whether an input of which 20 bytes were read ahead is served as the whole is.
+fn is_served_ahead(alloc: Global) -> Result<bool, Fail> {
+    let mut node = Node::new(alloc, 0, Seq::new(alloc))?;
+    let name = Name::read(b"a/x")?;
+    let _stamp = node.write(0, 0, &name, b"hi", &Vector::zero())?;
+    let (ahead, rest) = ASK.as_slice().split_at(20);
+    let mut source = MemorySource::new(rest.to_vec(alloc)?, 7, Vec::new(alloc));
+    let mut sink = MemorySink::new(alloc, 200, 9, Vec::new(alloc))?;
+    let end = serve_rest(alloc, &mut node, ahead, &mut source, &mut sink);
+    Ok(end == Ok(1) && sink.bytes() == ANSWER.as_slice())
+}
+
+// Whether one is pulled so.
+fn is_pulled_ahead(alloc: Global) -> Result<bool, Fail> {
+    let mut node = Node::new(alloc, 1, Seq::new(alloc))?;
+    let (ahead, rest) = ANSWER.as_slice().split_at(20);
+    let mut source = MemorySource::new(rest.to_vec(alloc)?, 7, Vec::new(alloc));
+    let end = pull_rest(alloc, &mut node, 2, &[0], ahead, &mut source);
+    Ok(end == Ok(1) && node.journal().len() == 1)
+}
+
+#[test]
+fn inputs_are_read_ahead(rt: HostRuntime) -> Result<(), Fail> {
+    assert!(rt; is_served_ahead(rt.alloc())?);
+    assert!(rt; is_pulled_ahead(rt.alloc())?);
     Ok(())
 }

@@ -33,14 +33,17 @@ impl Model for Window {
 }
 
 impl Window {
-    /// A window over an input of which nothing was read.
-    pub fn new() -> Window
-        ensures { result ≡ record { bytes = []; taken = 0 } }
+    /// A window over an input of which these bytes, at most 4,096, were read ahead.
+    pub fn new(ahead: &[u8]) -> Window
+        requires { length ahead.now ≤ 4096 }
+        ensures { result ≡ record { bytes = ahead.now; taken = 0 } }
     {
+        let mut bytes = [0; PIECE];
+        bytes[..ahead.len()].copy_from_slice(ahead);
         Window {
-            bytes: [0; PIECE],
+            bytes,
             at: 0,
-            end: 0,
+            end: ahead.len(),
             taken: 0,
         }
     }

@@ -2,9 +2,9 @@ use Rattle.std.proofs.Common.{◌≤◌, ◌-◌}
 use Rattle.pr_node.specs.Stored.{means}
 use Rattle.pr_serve.specs.Inputs.{input}
 use Rattle.pr_serve.specs.Sinks.{sink}
-use Rattle.pr_serve.proofs.PullEnds.{nothing_held}
+use Rattle.pr_serve.proofs.PullEnds.{read_ahead}
 use Rattle.pr_serve.proofs.ServeEnds.{Sofar}
-use Rattle.pr_serve.proofs.serving.serve.Given as goal
+use Rattle.pr_serve.proofs.serving.serve_rest.Given as goal
 
 abbrev pub invariant-loop-ask : goal.invariant-loop-ask
 invariant-loop-ask g l =
@@ -13,7 +13,7 @@ invariant-loop-ask g l =
     let text = g.K.Sink.text in
     let failed = g.K.Sink.faults in
     record {
-      sofar : Sofar (input (left l.fn.source) (faults l.fn.source) nothing_held) (input (left l.source) (faults l.source) l.window) (means l.fn.node) (means l.node)
+      sofar : Sofar (input (left l.fn.source) (faults l.fn.source) (read_ahead l.ahead)) (input (left l.source) (faults l.source) l.window) (means l.fn.node) (means l.node)
           (sink (text l.fn.out) (failed l.fn.out)) (sink (text l.out) (failed l.out)) l.count;
       most : l.window.taken ≤ 67108864;
     }

@@ -1,15 +1,15 @@
 use Rattle.std.proofs.Common.{◌≤◌, ◌-◌}
 use Rattle.pr_node.specs.Stored.{means}
 use Rattle.pr_serve.specs.Inputs.{input}
-use Rattle.pr_serve.proofs.PullEnds.{Sofar, nothing_held}
-use Rattle.pr_serve.proofs.pulling.pull.Given as goal
+use Rattle.pr_serve.proofs.PullEnds.{Sofar, read_ahead}
+use Rattle.pr_serve.proofs.pulling.pull_rest.Given as goal
 
 abbrev pub invariant-loop-msg : goal.invariant-loop-msg
 invariant-loop-msg g l =
     let left = g.S.Source.left in
     let faults = g.S.Source.faults in
     record {
-      sofar : Sofar l.nodes l.streams (input (left l.fn.source) (faults l.fn.source) nothing_held) (input (left l.source) (faults l.source) l.window) (means l.fn.node) (means l.node) l.count;
+      sofar : Sofar l.nodes l.streams (input (left l.fn.source) (faults l.fn.source) (read_ahead l.ahead)) (input (left l.source) (faults l.source) l.window) (means l.fn.node) (means l.node) l.count;
       most : l.window.taken ≤ 67108864;
     }
 
