@@ -1,11 +1,11 @@
 -- A flow's job, from its first call to its end.
-use Rattle.std.proofs.Common.{◌≡◌, ◌≢◌, ℕ, ◌-◌, List, [], ◌∷◌, ◌++◌, Result, Ok, Err, inl, inr, refl, sym, ap, ◌∙◌, subst, map, append_assoc, arith}
+use Rattle.std.proofs.Common.{◌≡◌, ◌≢◌, ◌⊎◌, ℕ, ◌-◌, List, [], ◌∷◌, ◌++◌, Result, Ok, Err, inl, inr, refl, sym, ap, ◌∙◌, subst, map, append_assoc, arith}
 use Rattle.std.specs.Prelude.{true, IsTrue, Option, Some, None, reverse}
 use Rattle.std.proofs.lemmas.List.Elements.{All-nil}
 use Rattle.pr_flow.specs.declared.flow_end.FlowEnd.{FlowEnd}
 use Rattle.pr_flow.specs.declared.flow_end.FlowEnd.TheVariants as ends
 use Rattle.pr_flow.specs.Calls.{Accepting, Ending, HasEnded}
-use Rattle.pr_flow.specs.Flows.{Calls, Ends, EndsAtRest, EndsBehindGap, EndsOnTheWay, Flows, IsOfScript, IsStuck, Makes, Rest, Sides}
+use Rattle.pr_flow.specs.Flows.{Calls, Ends, EndsAtRest, EndsBehindGap, EndsOnTheWay, Flows, IsOfScript, IsStuck, Makes, Rest, Sides, is_at_destination, is_at_source}
 use Rattle.pr_flow.specs.Flows.{events_of as told_of}
 use Rattle.pr_inval.specs.declared.msg.Msg.{Msg}
 use Rattle.pr_inval.specs.declared.node_fault.NodeFault.{NodeFault}
@@ -234,6 +234,7 @@ module _ (plan : Plan) (h : List NodeEntry) (s k : ℕ) where
       rises = λ j lt. absurd (omega arith);
       late = All-nil (λ t. _);
       of_stream = All-nil (λ x. IsTrue (is_of_stream x.made.entry.event s) × IsNoMissing x.made.entry.event);
+      sides = All-nil (λ x. IsTrue (is_at_source x.made.entry.event) ⊎ IsTrue (is_at_destination x.made.entry.event));
       stream = i.session_is.stream;
       stands = i.session_is.stands;
       attached = i.session_is.attached on;
@@ -271,6 +272,7 @@ module _ (plan : Plan) (h : List NodeEntry) (s k : ℕ) where
           gives = flow_gives s turns w.made events w.gives end of;
           rises = c.rises;
           of_stream = c.of_stream;
+          sides = c.sides;
           stands = record { stream = c.stream; stands = c.stands; attached = λ on. c.attached };
           lied = w.lied;
           failed = w.failed;

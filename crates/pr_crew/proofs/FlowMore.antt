@@ -1,5 +1,5 @@
 -- A flow's job, call by call.
-use Rattle.std.proofs.Common.{◌≡◌, ℕ, zero, suc, ◌<◌, ◌≤◌, ◌+◌, List, [], ◌∷◌, ◌++◌, All, inr, refl, sym, ap, ◌∙◌, subst, cond, get_or, arith}
+use Rattle.std.proofs.Common.{◌≡◌, ◌⊎◌, ℕ, zero, suc, ◌<◌, ◌≤◌, ◌+◌, List, [], ◌∷◌, ◌++◌, All, inr, refl, sym, ap, ◌∙◌, subst, cond, get_or, arith}
 use Rattle.std.specs.Prelude.{Bool, true, false, IsTrue, Option, Some, None, reverse}
 use Rattle.std.specs.List.Sorted.{IsStrictlyIncreasing}
 use mathlib.Core.List.{head-eq_of_cons-eq, tail-eq_of_cons-eq}
@@ -69,6 +69,7 @@ module _ (plan : Plan) (h : List NodeEntry) (s k : ℕ) where
     pub rises : IsStrictlyIncreasing (times_of xs)
     pub late : All (λ t. t ≤ a.standing.time) (times_of xs)
     pub of_stream : All (λ x. IsTrue (is_of_stream x.made.entry.event s) × IsNoMissing x.made.entry.event) xs
+    pub sides : All (λ x. IsTrue (is_at_source x.made.entry.event) ⊎ IsTrue (is_at_destination x.made.entry.event)) xs
     pub stream : a.stream ≡ s
     pub stands : StandsFor plan (plain (reverse xs) ++ h) s a.standing
     pub attached : IsAttached (plain (reverse xs) ++ h) s
@@ -84,6 +85,7 @@ module _ (plan : Plan) (h : List NodeEntry) (s k : ℕ) where
     pub on : HasGoneOn a b a.attached x.made.entry
     pub timed : is_timed x.made.entry.event s ≡ true
     pub own : IsTrue (is_of_stream x.made.entry.event s) × IsNoMissing x.made.entry.event
+    pub side : IsTrue (is_at_source x.made.entry.event) ⊎ IsTrue (is_at_destination x.made.entry.event)
     pub later : a.standing.time < x.made.entry.time
 
   pub common_more : (a b : SessionMeaning) (xs : List New) (x : New) → Common a xs → IsNext a b xs x → Common b (xs ++ x ∷ [])
@@ -103,6 +105,7 @@ module _ (plan : Plan) (h : List NodeEntry) (s k : ℕ) where
         late = subst (λ (ts : List ℕ). All (λ t. t ≤ b.standing.time) ts) (sym times)
             (All-push (λ t. t ≤ b.standing.time) (times_of xs) x.made.entry.time (All-weaker (λ t. t ≤ a.standing.time) (λ t. t ≤ b.standing.time) (λ t le. omega (arith, le, l, now)) (times_of xs) c.late) (omega (arith, now)));
         of_stream = All-push (λ y. IsTrue (is_of_stream y.made.entry.event s) × IsNoMissing y.made.entry.event) xs x c.of_stream n.own;
+        sides = All-push (λ y. IsTrue (is_at_source y.made.entry.event) ⊎ IsTrue (is_at_destination y.made.entry.event)) xs x c.sides n.side;
         stream = n.on.stream ∙ c.stream;
         stands = subst (λ (g : List NodeEntry). StandsFor plan g s b.standing) (sym back)
             (stands_on plan x.made (plain (reverse xs) ++ h) s a b a.attached c.stream c.stands n.on n.timed (omega (arith, known, l)));

@@ -1,5 +1,5 @@
 -- A flow's job, event by event.
-use Rattle.std.proofs.Common.{◌≡◌, ℕ, ◌<◌, ◌+◌, List, [], ◌∷◌, ◌++◌, refl, sym, ap, ◌∙◌, subst, max, arith}
+use Rattle.std.proofs.Common.{◌≡◌, ℕ, ◌<◌, ◌+◌, List, [], ◌∷◌, ◌++◌, inl, inr, refl, sym, ap, ◌∙◌, subst, max, arith}
 use Rattle.std.specs.Prelude.{true, false, IsTrue, Some, None, reverse}
 use Rattle.pr_flow.specs.Calls.{Call, HasStepped, HasTurned, Turning}
 use Rattle.pr_flow.specs.Flows.{Sides, is_at_destination, is_at_source}
@@ -70,6 +70,7 @@ module _ (plan : Plan) (h : List NodeEntry) (s k : ℕ) where
             on = t.session;
             timed = here.timed;
             own = here.own;
+            side = inl on;
             later = after_time a e.time (last_time m.before) time;
           });
           has_source = m.has;
@@ -108,6 +109,7 @@ module _ (plan : Plan) (h : List NodeEntry) (s k : ℕ) where
             on = on (after_time a e.time (last_time m.before) time);
             timed = here.timed;
             own = here.own;
+            side = inr at;
             later = after_time a e.time (last_time m.before) time;
           });
           has_source = ap (λ (y : AtCell). y.pass) still ∙ f.has_source;

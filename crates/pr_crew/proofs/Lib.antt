@@ -12,3 +12,4 @@ pub mod FlowSteps
 pub mod FlowWalk
 pub mod FlowEvents
 pub mod FlowEnding
+pub mod Owned

@@ -105,6 +105,7 @@ module _ (plan : Plan) (h : List NodeEntry) where
     pub gives : FlowGives (FlowJob s turns) xs end
     pub rises : IsStrictlyIncreasing (times_of xs)
     pub of_stream : All (λ x. IsTrue (is_of_stream x.made.entry.event s) × IsNoMissing x.made.entry.event) xs
+    pub sides : All (λ x. IsTrue (is_at_source x.made.entry.event) ⊎ IsTrue (is_at_destination x.made.entry.event)) xs
     pub stands : IsSession plan (plain (reverse xs) ++ h) s session
     pub lied : FlowLied s xs end
     pub failed : FlowFailed s p q xs end

@@ -26,3 +26,5 @@ pub mod GoesDown
 pub mod Turns
 pub mod Appending
 pub mod Represented
+pub mod Crossing
+pub mod Carrying

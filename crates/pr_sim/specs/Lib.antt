@@ -7,4 +7,5 @@ pub mod Stepping
 pub mod Phasing
 pub mod Settles
 pub mod Flowing
+pub mod Crossing
 pub mod Holding

@@ -2,6 +2,7 @@
 ghost use Rattle.pr_script.specs.Steps.{owner_of, turns_in};
 ghost use Rattle.pr_script.specs.declared.owner.Owner.TheVariants as owner;
 ghost use Rattle.pr_sim.specs.Commands.{ForEachRun, StepEnds};
+ghost use Rattle.pr_sim.specs.Crossing.{JobAdds, PhaseCarries};
 ghost use Rattle.pr_sim.specs.Flowing.{AreFewWires};
 ghost use Rattle.pr_sim.specs.Phasing.{CanDo, CanRunPhase, GivesAll, GoodPhaseCanRun, IsJobLine, JobEnds, asked_by, asked_of, turns_by};
 ghost use Rattle.pr_sim.specs.Running.{IsKept};
@@ -32,6 +33,7 @@ impl Engine {
         requires can { CanRunPhase self.old inside.now }
         requires few { W.made wires.old + 64 ≤ 2 ^ 40 }
         ensures steps { ForEachRun self.old (λ d attached h. StepEnds (Phase (jobs_of inside.now)) d attached h self.new result) }
+        ensures carried { ForEachRun self.old (λ d attached h. PhaseCarries (jobs_of inside.now) (W.carried wires.old) (W.carried wires.new) d attached h self.new result) }
         ensures wires { StepsByWires W.faults W.made W.out W.sound 64 wires.old wires.new result }
     {
         let owners = owners(self.alloc, inside)?;
@@ -56,6 +58,7 @@ impl Engine {
         requires turns { turns_in inside.now ≤ 1000000 }
         requires few { AreFewWires (W.made wires.old) }
         ensures ends { ForEachRun self.old (λ d attached h. JobEnds (job_of inside.now owner) d attached h self.new result) }
+        ensures carried { ForEachRun self.old (λ d attached h. JobAdds (job_of inside.now owner) (W.carried wires.old) (W.carried wires.new) d attached h self.new result) }
         ensures wires { StepsByWires W.faults W.made W.out W.sound 1 wires.old wires.new result }
     {
         match owner {

@@ -1,6 +1,7 @@
 // A script's commands.
 ghost use Rattle.pr_inval.specs.declared.node_fault.NodeFault.{NodeFault};
 ghost use Rattle.pr_sim.specs.Commands.{Ends, ForEachRun, StepEnds};
+ghost use Rattle.pr_sim.specs.Crossing.{CommandCarries};
 ghost use Rattle.pr_sim.specs.Flowing.{AreFewWires};
 ghost use Rattle.pr_sim.specs.Running.{IsKept};
 ghost use Rattle.pr_sim.specs.Stepping.{AttachedTogether, CanRun, GoodCanRun, IsShort, IsStopOf, StepsByWires, went_of};
@@ -22,6 +23,7 @@ impl Engine {
         requires can { CanRun self.old command.now }
         requires few { AreFewWires (W.made wires.old) }
         ensures steps { ForEachRun self.old (λ d attached h. StepEnds (line_of command.now) d attached h self.new result) }
+        ensures carried { ForEachRun self.old (λ d attached h. CommandCarries command.now (W.carried wires.old) (W.carried wires.new) d attached h self.new result) }
         ensures wires { StepsByWires W.faults W.made W.out W.sound 1 wires.old wires.new result }
     {
         match command {

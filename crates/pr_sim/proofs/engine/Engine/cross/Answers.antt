@@ -9,6 +9,12 @@ use Rattle.pr_sim.specs.Commands.{Grows}
 use Rattle.pr_sim.specs.Flowing.{IsBegun, IsOnTheWay, TurnsEnd}
 use Rattle.pr_sim.proofs.Faults.{no_memory, stopped_same, this_cause}
 use Rattle.pr_sim.proofs.Flows.{cut_can, cut_is_no_gap, down_is, not_grown, sent_begun}
+use Rattle.pr_sim.specs.Crossing.{Adds, Crosses}
+use Rattle.pr_flow.specs.Flows.{crossed}
+use Rattle.pr_wire.specs.Spelling.{spelling}
+use Rattle.pr_wire.specs.declared.format.Format.TheVariants.{Two}
+use Rattle.pr_sim.proofs.Carrying.{none_added}
+use Rattle.pr_sim.proofs.Crossing.{arrival_crosses, cut_crosses}
 use Rattle.pr_sim.proofs.engine.Engine.cross.Goals as goal
 
 pub returns-in_err-msg-clause-flowed : goal.returns-in_err-msg-clause-flowed
@@ -43,3 +49,33 @@ returns-in-Lied-clause-flowed g c d attached h k way =
     let w = g.W.Wire in
     let moved = subst (λ (x : Carried). HasCarried (w.state c.args.wire.now) (w.state c.carry.new.wire) c.args.msg.now x) c.in-Lied.is c.in_ok-msg.ensures.moved in
     ([], k, λ left. (sent_begun c.args.stream left c.args.msg.now, (c.args.msg.now, way.1, (refl, moved.0, is_no_beginning (w.state c.args.wire.now) (w.state c.carry.new.wire) c.in-Lied.sent c.in-Lied.got c.requires.under moved.1), ([], refl))))
+
+pub returns-in_err-msg-clause-crossed : goal.returns-in_err-msg-clause-crossed
+returns-in_err-msg-clause-crossed g c d attached h k way =
+    let w = g.W.Wire in
+    none_added d attached h c.args.self.now (λ end es. Crosses (w.state c.args.wire.now) (w.state c.carry.new.wire) c.args.stream (Some c.args.msg.now) end (events_of es)) _ c.from_residual.result c.from_residual.ensures.1
+
+pub returns-in_err-go_down-in-Cut-clause-crossed : goal.returns-in_err-go_down-in-Cut-clause-crossed
+returns-in_err-go_down-in-Cut-clause-crossed g c d attached h k way =
+    let w = g.W.Wire in
+    none_added d attached h c.go_down.new.self (λ end es. Crosses (w.state c.args.wire.now) (w.state c.carry.new.wire) c.args.stream (Some c.args.msg.now) end (events_of es)) _ c.from_residual-in_err-go_down-in-Cut.result c.from_residual-in_err-go_down-in-Cut.ensures.1
+
+pub returns-in-Whole-clause-crossed : goal.returns-in-Whole-clause-crossed
+returns-in-Whole-clause-crossed g c d attached h k way =
+    let w = g.W.Wire in
+    let moved = subst (λ (x : Carried). HasCarried (w.state c.args.wire.now) (w.state c.carry.new.wire) c.args.msg.now x) c.in-Whole.is c.in_ok-msg.ensures.moved in
+    arrival_crosses d attached h c.arrive.new.self (w.state c.args.wire.now) (w.state c.carry.new.wire) c.args.stream c.args.msg.now c.in-Whole.msg moved.0 moved.1.taken c.arrive.result c.arrive.ensures.end
+    (c.arrive.ensures.crossed d attached h k (subst (λ (m : Msg). IsOnTheWay h c.args.stream m) (sym moved.0) way))
+
+pub returns-in_ok-go_down-in-Cut-clause-crossed : goal.returns-in_ok-go_down-in-Cut-clause-crossed
+returns-in_ok-go_down-in-Cut-clause-crossed g c d attached h k way =
+    let w = g.W.Wire in
+    let moved = subst (λ (x : Carried). HasCarried (w.state c.args.wire.now) (w.state c.carry.new.wire) c.args.msg.now x) c.in-Cut.is c.in_ok-msg.ensures.moved in
+    let made = c.in_ok-go_down-in-Cut.ensures d attached h k (cut_can d.plan h c.args.stream c.in-Cut.cause (w.state c.args.wire.now) (w.state c.carry.new.wire) moved.0 way.2) in
+    (made.0 ∷ [], made.1, cut_crosses c.args.stream c.args.msg.now c.in-Cut.cause (w.state c.args.wire.now) (w.state c.carry.new.wire) made.0 c.requires.under moved.0 moved.1 made.2)
+
+pub returns-in-Lied-clause-crossed : goal.returns-in-Lied-clause-crossed
+returns-in-Lied-clause-crossed g c d attached h k way =
+    let w = g.W.Wire in
+    let moved = subst (λ (x : Carried). HasCarried (w.state c.args.wire.now) (w.state c.carry.new.wire) c.args.msg.now x) c.in-Lied.is c.in_ok-msg.ensures.moved in
+    ([], k, (c.in-Lied.got, moved.1.1.taken, refl))

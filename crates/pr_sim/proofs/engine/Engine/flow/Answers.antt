@@ -7,6 +7,7 @@ use Rattle.pr_sim.specs.Commands.{attached_of}
 use Rattle.pr_sim.specs.Flowing.{IsBegun, TurnsEnd}
 use Rattle.pr_sim.proofs.Flows.{grows_behind, is_attached}
 use Rattle.pr_sim.proofs.Turns.{failed_begins, flow_begins, flow_failed, stop_ends}
+use Rattle.pr_sim.proofs.Crossing.{failed_carries, stop_carries}
 use Rattle.pr_sim.proofs.engine.Engine.flow.Goals as goal
 
 pub returns-in_err-go_down-in-Err-clause-flowed : goal.returns-in_err-go_down-in-Err-clause-flowed
@@ -33,3 +34,16 @@ returns-in_ok-go_down-in-Err-clause-flowed g c d attached h k =
 pub returns-in_ok-end-in-Ok-clause-flowed : goal.returns-in_ok-end-in-Ok-clause-flowed
 returns-in_ok-end-in-Ok-clause-flowed g c d attached h k =
     stop_ends c.args.stream c.args.turns d attached h c.flow_over-end.new.self c.in_ok-end-in-Ok.field-0 c.stop_of.result c.stop_of.ensures (c.in_ok-end-in-Ok.ensures.flowed d attached h k)
+
+pub returns-in_ok-go_down-in-Err-clause-carried : goal.returns-in_ok-go_down-in-Err-clause-carried
+returns-in_ok-go_down-in-Err-clause-carried g c d attached h k =
+    let s = c.args.stream in
+    let made = c.in_ok-go_down-in-Err.ensures d attached h k (is_attached d attached h c.args.self.now s k c.requires.stream c.requires.attached, tt) in
+    failed_carries s d attached h c.go_down.new.self made.0 (g.W.Wires.carried c.args.wires.now) (g.W.Wires.carried c.connect.new.self) made.1 made.2 c.connect.ensures.same.1
+
+pub returns-in_ok-end-in-Ok-clause-carried : goal.returns-in_ok-end-in-Ok-clause-carried
+returns-in_ok-end-in-Ok-clause-carried g c d attached h k =
+    let w = g.W.Wire.Wire in
+    let carried = g.W.Wires.carried in
+    stop_carries c.args.stream c.args.turns d attached h c.flow_over-end.new.self (carried c.args.wires.now) (carried c.connect.new.self) (carried c.close.new.self) (w.state c.in-Ok.wire) (w.state c.flow_over-end.new.wire) c.in-Ok.ensures.unused.taken c.connect.ensures.same.1 c.close.ensures.carried
+    c.in_ok-end-in-Ok.field-0 c.stop_of.result c.stop_of.ensures (c.in_ok-end-in-Ok.ensures.flowed d attached h k) (c.in_ok-end-in-Ok.ensures.crossed d attached h k)

@@ -5,6 +5,9 @@ use Rattle.pr_story.specs.Scripts.{events_of}
 use Rattle.pr_sim.specs.Flowing.{IsBegun, LeadsTo, TurnsEnd}
 use Rattle.pr_sim.proofs.Flows.{grows_behind, same_streams, stays_attached, still_grown}
 use Rattle.pr_sim.proofs.Turns.{at_an_end, begins_behind, ends_behind, leads_still, wire_behind, wire_goes_on}
+use Rattle.pr_sim.specs.Crossing.{Adds, Crosses}
+use Rattle.pr_sim.proofs.Carrying.{none_added}
+use Rattle.pr_sim.proofs.Crossing.{adds_behind, crosses_behind, crosses_done, crosses_on}
 use Rattle.pr_sim.proofs.engine.Engine.flow_over.Goals as goal
 
 pub returns-in_err-end-clause-flowed : goal.returns-in_err-end-clause-flowed
@@ -34,6 +37,10 @@ returns-in_default g c =
           (λ end es is. ends_behind s c.args.turns l.left end (reverse first.0) es some first.2 is) (λ es is. begins_behind s c.args.turns l.left (reverse first.0) es some first.2 is)
           (c.in_ok-end.ensures.flowed d attached (first.0 ++ h) first.1) in
           (then.0, then.1, at_an_end s c.args.turns (l.left - 1) c.in_ok-end.end (events_of (reverse then.0)) c.in_default.not-Done then.2);
+      crossed = λ d attached h k.
+          let first = l.invariant.crosses d attached h k in
+          adds_behind d attached h first.0 c.flow_turn.new.self (λ end es. Crosses (w.state l.wire) (w.state c.flow_turn.new.wire) s None end (events_of es)) (λ end es. Crosses (w.state c.args.wire.now) (w.state c.flow_turn.new.wire) s None end (events_of es)) (Ok c.in_ok-end.end)
+          (λ end es is. crosses_behind (w.state c.args.wire.now) (w.state l.wire) (w.state c.flow_turn.new.wire) s (reverse first.0) es end first.2 is) (c.in_ok-end.ensures.crossed d attached (first.0 ++ h) first.1);
       wire = wire_behind (w.state c.args.wire.now) (w.state l.wire) (w.state c.flow_turn.new.wire) c.in_ok-end.end l.invariant.wire c.in_ok-end.ensures.wire.0;
     }
 
@@ -56,6 +63,11 @@ loop-left-preserved g c =
           (λ end es is. ends_behind s c.args.turns l.left end (reverse first.0) es some first.2 is) (λ es is. begins_behind s c.args.turns l.left (reverse first.0) es some first.2 is)
           (c.in_ok-end.ensures.flowed d attached (first.0 ++ h) first.1) in
           (more.0, more.1, leads_still s c.args.turns (l.left - 1) c.in_ok-end.end (events_of (reverse more.0)) c.in-Done.is more.2);
+      crosses = λ d attached h r.
+          let first = l.invariant.crosses d attached h r in
+          let more = adds_behind d attached h first.0 c.flow_turn.new.self (λ end es. Crosses (w.state l.wire) (w.state c.flow_turn.new.wire) s None end (events_of es)) (λ end es. Crosses (w.state c.args.wire.now) (w.state c.flow_turn.new.wire) s None end (events_of es)) (Ok c.in_ok-end.end)
+          (λ end es is. crosses_behind (w.state c.args.wire.now) (w.state l.wire) (w.state c.flow_turn.new.wire) s (reverse first.0) es end first.2 is) (c.in_ok-end.ensures.crossed d attached (first.0 ++ h) first.1) in
+          (more.0, more.1, crosses_on (w.state c.args.wire.now) (w.state c.flow_turn.new.wire) s c.in_ok-end.end (events_of (reverse more.0)) c.in-Done.is more.2);
       wire = wire_goes_on (w.state c.args.wire.now) (w.state l.wire) (w.state c.flow_turn.new.wire) c.in_ok-end.end l.invariant.wire c.in_ok-end.ensures.wire.0 c.in_ok-end.ensures.wire.1 c.in-Done.is;
     }
 
@@ -64,3 +76,15 @@ returns-clause-flowed g c d attached h k =
     let l = c.loop-left in
     let first = l.invariant.grown d attached h k in
     (first.0, first.1, subst (λ (n : ℕ). LeadsTo c.args.stream None c.args.turns n (events_of (reverse first.0))) (omega (arith, c.loop-left-test.false)) first.2)
+
+pub returns-in_err-end-clause-crossed : goal.returns-in_err-end-clause-crossed
+returns-in_err-end-clause-crossed g c d attached h k =
+    let w = g.W.Wire in
+    none_added d attached h c.flow_turn.new.self (λ end es. Crosses (w.state c.args.wire.now) (w.state c.flow_turn.new.wire) c.args.stream None end (events_of es)) _ c.from_residual.result c.from_residual.ensures.1
+
+pub returns-clause-crossed : goal.returns-clause-crossed
+returns-clause-crossed g c d attached h k =
+    let w = g.W.Wire in
+    let l = c.loop-left in
+    let first = l.invariant.crosses d attached h k in
+    (first.0, first.1, crosses_done (w.state c.args.wire.now) (w.state l.wire) c.args.stream (events_of (reverse first.0)) first.2)

@@ -4,6 +4,9 @@ use Rattle.pr_story.specs.Scripts.{events_of}
 use Rattle.pr_sim.specs.Flowing.{IsBegun, TurnsEnd}
 use Rattle.pr_sim.proofs.Faults.{this_cause}
 use Rattle.pr_sim.proofs.Flows.{grows_behind, idle_leads, is_attached, none_begun, not_grown, on_the_way, same_streams, sent_begins, sent_ends, sent_step, stale_ends}
+use Rattle.pr_sim.specs.Crossing.{Adds, Crosses}
+use Rattle.pr_sim.proofs.Carrying.{none_added}
+use Rattle.pr_sim.proofs.Crossing.{adds_behind, idle_crosses, sent_crosses, stale_crosses}
 use Rattle.pr_sim.proofs.engine.Engine.flow_turn.Goals as goal
 
 pub returns-in_err-turn-clause-flowed : goal.returns-in_err-turn-clause-flowed
@@ -53,3 +56,33 @@ returns-in-Sent-clause-flowed g c d attached h k =
     (λ es. (left : _) → IsBegun s (Some m) left (events_of es)) (λ es. (left : _) → IsBegun s None (left + 1) (events_of es)) c.cross.result
     (λ end es is left. sent_ends s left m made.0 end (events_of es) turned (is left)) (λ es is left. sent_begins s left m made.0 (events_of es) turned (is left))
     (c.cross.ensures.flowed d attached (made.0 ∷ h) made.1 way)
+
+pub returns-in_err-turn-clause-crossed : goal.returns-in_err-turn-clause-crossed
+returns-in_err-turn-clause-crossed g c d attached h k =
+    let w = g.W.Wire in
+    none_added d attached h c.turn.new.self (λ end es. Crosses (w.state c.args.wire.now) (w.state c.args.wire.now) c.args.stream None end (events_of es)) _ c.from_residual.result c.from_residual.ensures.1
+
+pub returns-in-Idle-clause-crossed : goal.returns-in-Idle-clause-crossed
+returns-in-Idle-clause-crossed g c d attached h k =
+    let w = g.W.Wire in
+    let made = c.in_ok-turn.ensures d attached h k in
+    (made.0 ∷ [], made.1, idle_crosses c.args.stream c.in_ok-turn.field-0 (w.state c.args.wire.now) made.0 c.in-Idle.is made.2.0)
+
+pub returns-in-Stale-clause-crossed : goal.returns-in-Stale-clause-crossed
+returns-in-Stale-clause-crossed g c d attached h k =
+    let w = g.W.Wire in
+    let made = c.in_ok-turn.ensures d attached h k in
+    (made.0 ∷ [], made.1, stale_crosses c.args.stream c.in_ok-turn.field-0 c.in-Stale.cut (w.state c.args.wire.now) made.0 c.in-Stale.is made.2.0)
+
+pub returns-in-Sent-clause-crossed : goal.returns-in-Sent-clause-crossed
+returns-in-Sent-clause-crossed g c d attached h k =
+    let w = g.W.Wire in
+    let a = w.state c.args.wire.now in
+    let b = w.state c.cross.new.wire in
+    let made = c.in_ok-turn.ensures d attached h k in
+    let m = c.in-Sent.msg in
+    let s = c.args.stream in
+    let turned = sent_step s c.in_ok-turn.field-0 m made.0 c.in-Sent.is made.2 in
+    let way = on_the_way s m made.0 h turned (is_attached d attached h c.args.self.now s k c.requires.stream c.requires.attached) in
+    adds_behind d attached h (made.0 ∷ []) c.cross.new.self (λ end es. Crosses a b s (Some m) end (events_of es)) (λ end es. Crosses a b s None end (events_of es)) c.cross.result
+    (λ end es is. sent_crosses a b s m made.0 end (events_of es) turned.0 is) (c.cross.ensures.crossed d attached (made.0 ∷ h) made.1 way)

@@ -16,6 +16,8 @@ use Rattle.pr_sim.specs.Phasing.{JobEnds}
 use Rattle.pr_sim.specs.Running.{IsRunning}
 use Rattle.pr_sim.proofs.JobParts.{ends_at_once, ends_there, ends_whole, goes_on, map_more, map_split, no_ok, ok_same, owners_can, still_owners, wires_more, wires_same, wires_stop}
 use Rattle.pr_sim.proofs.JobsInOrder.{lines_can}
+use Rattle.pr_sim.specs.Crossing.{JobAdds, JobsCarry}
+use Rattle.pr_sim.proofs.Carrying.{other_stop, phase_more, phase_none}
 use Rattle.pr_sim.proofs.engine.Engine.phase_in_order.Goals as goal
 
 pub returns-in_err-owners-clause-steps : goal.returns-in_err-owners-clause-steps
@@ -29,6 +31,7 @@ loop-owner-init g c = record {
   lines = c.requires.can.lines;
   can = owners_can c.args.self.now c.args.inside.now c.requires.can.lines;
   given = λ d attached h k. ([], k, refl);
+  carried = λ d attached h k. ([], k, (refl, refl));
   wires = wires_same g.W.Wires.faults g.W.Wires.made g.W.Wires.out g.W.Wires.sound c.args.wires.now;
 }
 
@@ -64,6 +67,7 @@ returns-in_default g c =
           ends_there d attached h c.job.new.self first.0 (map (job_of inside) (take i os)) (job_of inside o) first.2 (map (job_of inside) (drop (i + 1) os)) (jobs_of inside) (Ok c.in_ok-stop.stop)
           (map_split (job_of inside) os i o (owner.Client 0) lt is) (λ went. c.in_default.not-Went (ok_same c.in_ok-stop.stop stops.Went (Ok c.in_ok-stop.stop) refl went))
           (c.in_ok-stop.ensures.ends d attached (first.0 ++ h) first.1);
+      carried = λ d attached h k. other_stop d attached h c.job.new.self (g.W.Wires.carried c.args.wires.now) (g.W.Wires.carried c.job.new.wires) (jobs_of inside) c.in_ok-stop.stop c.in_default.not-Went;
       wires = wires_stop g.W.Wires.faults g.W.Wires.made g.W.Wires.out g.W.Wires.sound i c.args.wires.now c.loop-owner.wires c.job.new.wires (Ok c.in_ok-stop.stop) (Ok c.in_ok-stop.stop) refl l.wires
           (let most = c.requires.can.jobs in omega (arith, most, lt)) c.in_ok-stop.ensures.wires;
     }
@@ -88,6 +92,12 @@ loop-owner-preserved g c =
           let first = l.given d attached h r in
           let on = goes_on d attached h c.job.new.self first.0 (map (job_of inside) (take i os)) (job_of inside o) first.2 c.in_ok-stop.stop c.in-Went.is (c.in_ok-stop.ensures.ends d attached (first.0 ++ h) first.1) in
           (on.0, on.1, subst (λ (js : List Job). AreOfJobs JobGives js (reverse on.0)) (sym (map_more (job_of inside) os i o (owner.Client 0) lt is)) on.2);
+      carried = λ d attached h r.
+          let first = l.carried d attached h r in
+          let carried = g.W.Wires.carried in
+          let on = phase_more d attached h first.0 c.job.new.self (map (job_of inside) (take i os)) (job_of inside o) (carried c.args.wires.now) (carried c.loop-owner.wires) (carried c.job.new.wires) first.2
+          (subst (λ (x : Stop). JobAdds (job_of inside o) (carried c.loop-owner.wires) (carried c.job.new.wires) d attached (first.0 ++ h) c.job.new.self (Ok x)) c.in-Went.is (c.in_ok-stop.ensures.carried d attached (first.0 ++ h) first.1)) in
+          (on.0, on.1, subst (λ (js : List Job). JobsCarry js (reverse on.0) (carried c.args.wires.now) (carried c.job.new.wires)) (sym (map_more (job_of inside) os i o (owner.Client 0) lt is)) on.2);
       wires = wires_more g.W.Wires.faults g.W.Wires.made g.W.Wires.out g.W.Wires.sound i c.args.wires.now c.loop-owner.wires c.job.new.wires (Ok c.in_ok-stop.stop) l.wires c.in_ok-stop.ensures.wires;
     }
 
@@ -97,3 +107,17 @@ returns-clause-steps g c d attached h k =
     ends_whole d attached h c.loop-owner.self (jobs_of c.args.inside.now)
     (subst (λ (os : List Owner). (new : List NodeEntry) × IsRunning d attached (new ++ h) c.loop-owner.self × AreOfJobs JobGives (map (job_of c.args.inside.now) os) (reverse new))
     (take_all c.loop-owner.owner-index (owners_of c.args.inside.now) past) (c.loop-owner.invariant.given d attached h k))
+
+pub returns-in_err-owners-clause-carried : goal.returns-in_err-owners-clause-carried
+returns-in_err-owners-clause-carried g c d attached h k =
+    phase_none d attached h c.args.self.now (jobs_of c.args.inside.now) (g.W.Wires.carried c.args.wires.now) (g.W.Wires.carried c.args.wires.now) _ c.from_residual.result c.from_residual.ensures.1
+
+pub returns-in_err-stop-clause-carried : goal.returns-in_err-stop-clause-carried
+returns-in_err-stop-clause-carried g c d attached h k =
+    phase_none d attached h c.job.new.self (jobs_of c.args.inside.now) (g.W.Wires.carried c.args.wires.now) (g.W.Wires.carried c.job.new.wires) _ c.from_residual-in_err-stop.result c.from_residual-in_err-stop.ensures.1
+
+pub returns-clause-carried : goal.returns-clause-carried
+returns-clause-carried g c d attached h k =
+    let past = subst (λ (os : List Owner). length os ≤ c.loop-owner.owner-index) (c.as_slice-owner-items.ensures ∙ c.in_ok-owners.ensures) c.loop-owner-test.false in
+    subst (λ (os : List Owner). (new : List NodeEntry) × IsRunning d attached (new ++ h) c.loop-owner.self × JobsCarry (map (job_of c.args.inside.now) os) (reverse new) (g.W.Wires.carried c.args.wires.now) (g.W.Wires.carried c.loop-owner.wires))
+    (take_all c.loop-owner.owner-index (owners_of c.args.inside.now) past) (c.loop-owner.invariant.carried d attached h k)

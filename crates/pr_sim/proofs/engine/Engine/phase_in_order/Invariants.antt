@@ -5,6 +5,7 @@ use Rattle.pr_story.specs.History.{NodeEntry}
 use Rattle.pr_story.specs.Scripts.{JobGives}
 use Rattle.pr_story.proofs.JobAfterJob.{AreOfJobs}
 use Rattle.pr_text.specs.Steps.{job_of}
+use Rattle.pr_sim.specs.Crossing.{JobsCarry}
 use Rattle.pr_sim.specs.Phasing.{CanDo, IsJobLine}
 use Rattle.pr_sim.specs.Running.{IsKept, IsRunning}
 use Rattle.pr_story.specs.Counts.{Declared}
@@ -18,5 +19,7 @@ invariant-loop-owner g l = record {
   can : AllByRecursion (CanDo l.self) (owners_of l.inside);
   given : (d : Declared) (attached : ℕ → Bool) (h : List NodeEntry) → IsRunning d attached h l.initial.self
       → (new : List NodeEntry) × IsRunning d attached (new ++ h) l.self × AreOfJobs JobGives (map (job_of l.inside) (take l.owner-index (owners_of l.inside))) (reverse new);
+  carried : (d : Declared) (attached : ℕ → Bool) (h : List NodeEntry) → IsRunning d attached h l.initial.self
+      → (new : List NodeEntry) × IsRunning d attached (new ++ h) l.self × JobsCarry (map (job_of l.inside) (take l.owner-index (owners_of l.inside))) (reverse new) (g.W.Wires.carried l.initial.wires) (g.W.Wires.carried l.wires);
   wires : WiresSoFar g.W.Wires.faults g.W.Wires.made g.W.Wires.out g.W.Wires.sound l.owner-index l.initial.wires l.wires;
 }

@@ -1,8 +1,9 @@
-use Rattle.std.proofs.Common.{ap}
+use Rattle.std.proofs.Common.{ap, rules}
 use Rattle.pr_script.specs.declared.command.Command.{Command}
 use Rattle.pr_story.specs.Scripts.{Flow, Settle}
 use Rattle.pr_text.specs.Steps.{line_of}
 use Rattle.pr_sim.proofs.Stops.{ends_step, flow_step, no_wires, said_step}
+use Rattle.pr_sim.proofs.Carrying.{flow_carries, none_said, settle_said}
 use Rattle.pr_sim.proofs.engine.Engine.step.Goals as goal
 
 pub returns-in-Flow-clause-steps : goal.returns-in-Flow-clause-steps
@@ -18,5 +19,14 @@ returns-in-Settle-clause-steps g c d attached h k =
 pub returns-in_default : goal.returns-in_default
 returns-in_default g c = record {
   steps = λ d attached h k. ends_step d attached h c.run.new.self (line_of c.args.command.now) c.run.result c.went-in_default.result c.went-in_default.ensures (c.run.ensures d attached h k);
+  carried = λ d attached h k. none_said d attached h c.run.new.self c.args.command.now (g.W.Wires.carried c.args.wires.now) c.went-in_default.result (search rules);
   wires = no_wires g.W.Wires.faults g.W.Wires.made g.W.Wires.out g.W.Wires.sound c.args.wires.now c.run.result c.went-in_default.result c.went-in_default.ensures;
 }
+
+pub returns-in-Flow-clause-carried : goal.returns-in-Flow-clause-carried
+returns-in-Flow-clause-carried g c d attached h k =
+    flow_carries d attached h c.flow.new.self (g.W.Wires.carried c.args.wires.now) (g.W.Wires.carried c.flow.new.wires) c.args.command.now c.in-Flow.stream c.in-Flow.turns c.flow.result c.stopped.result c.in-Flow.is c.stopped.ensures
+    (c.flow.ensures.carried d attached h k)
+
+pub returns-in-Settle-clause-carried : goal.returns-in-Settle-clause-carried
+returns-in-Settle-clause-carried g c d attached h k = settle_said d attached h c.settle.new.self c.args.command.now (g.W.Wires.carried c.args.wires.now) c.went.result c.in-Settle.is
