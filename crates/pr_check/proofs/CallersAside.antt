@@ -1,7 +1,7 @@
 -- Callers' numbers count for nothing: what a journal or a history says is what it says without them. Most of what
 -- follows is a path: a definition once more, between what it says without the numbers and what it says with them.
-use Rattle.std.proofs.Common.{◌≡◌, ◌⊎◌, ◌≤◌, ◌<◌, ◌+◌, ℕ, Bool, true, false, cond, List, [], ◌∷◌, Option, Some, None, max, nat_eq, inl, inr, refl, sym, ap, subst, ◌∙◌, length}
-use Rattle.std.specs.Prelude.{AllPairs, Contains, IsTrue, ◌↔◌}
+use Rattle.std.proofs.Common.{◌≡◌, ◌⊎◌, ◌≤◌, ◌<◌, ◌+◌, ℕ, Bool, true, false, cond, List, [], ◌∷◌, Option, Some, None, max, nat_eq, inl, inr, refl, ap, subst, ◌∙◌, length}
+use Rattle.std.specs.Prelude.{Contains, IsTrue, ◌↔◌}
 use Rattle.std.specs.List.{AllZip}
 use Rattle.pr_names.specs.Name.{IsName}
 use Rattle.pr_names.specs.Order.{name_lt}
@@ -24,7 +24,6 @@ use Rattle.pr_story.specs.Lawful.{DownAfter, HasCause, IsLawful, IsPlaced, MayCo
 use Rattle.pr_story.specs.Lines.{without_callers}
 use Rattle.pr_story.specs.Told.{IsDarkBetween, IsGreatestUpTo, IsLastPrecise, IsLit, IsPrecise, IsStart, IsTold, IsUntold, TellsPoint, all_sets}
 use Rattle.pr_story.specs.Turns.{Attaches, EndsAtVector, EndsBeforeNext, HoldsCut, HoldsVector, IdleTurn, IsBodyToSend, IsNextBody, IsNextWrite, IsOmitted, IsSnapshot, IsSnapshotRow, IsTarget, IsTurn, IsWithheld, IsWriteToSend, SendTurn, StaleTurn, Turn, WithholdsNone, count_after, has_sent, is_of_stream, is_timed, position, position_after, sent_after, sent_count, standing, stream_time}
-use Rattle.pr_story.specs.declared.cause.Cause.{Cause}
 use Rattle.pr_story.specs.declared.entry.Entry.{Entry}
 use Rattle.pr_story.specs.declared.event.Event.{Event}
 use Rattle.pr_story.specs.declared.event.Event.TheVariants.{Wrote, Attached, Sent, Idle, Stale, Accepted, Gapped, Missing, Down, Answered, Behind, Moved, Cut, Dropped, Conflicts, State}

@@ -1,6 +1,6 @@
 -- Whatever a transcript's lines begin with begins a transcript, and a text with a bad line is none.
-use Rattle.std.proofs.Common.{◌≡◌, ◌⊎◌, ℕ, inl, inr, List, [], ◌∷◌, ◌++◌, length, refl, sym, ap, subst, ◌∙◌, append_assoc}
-use Rattle.std.specs.List.{AllByRecursion, flat_map}
+use Rattle.std.proofs.Common.{◌≡◌, ◌⊎◌, ℕ, inl, inr, List, [], ◌∷◌, ◌++◌, length, refl, sym, ap, ◌∙◌, append_assoc}
+use Rattle.std.specs.List.{flat_map}
 use Rattle.std.proofs.lemmas.Grind.{flat_map-append}
 use Rattle.std.proofs.lemmas.List.{append-nil}
 use Rattle.pr_script.specs.declared.decl.Decl.{Decl}
@@ -10,7 +10,7 @@ use Rattle.pr_script.proofs.OneCut.{one_cut, some_meaning}
 use Rattle.pr_story.specs.History.{NodeEntry}
 use Rattle.pr_text.specs.Lines.{sentence}
 use Rattle.pr_check.specs.Heads.{AreAccepted}
-use Rattle.pr_check.specs.Judging.{BeginsTranscript, IsAlone, end_line, told_lines, whole_lines}
+use Rattle.pr_check.specs.Judging.{BeginLineByLine, BeginsTranscript, IsAlone, end_line, told_lines, whole_lines}
 use Rattle.pr_check.specs.Texts.{IsTranscriptOf}
 use Rattle.pr_check.proofs.Begun.{last_two, told_more}
 use Rattle.pr_check.proofs.NoEnds.{AllNoEnd, all_append, older, whole_no_ends, whole_text}
@@ -46,7 +46,12 @@ front_of_whole ds accepted h alone us more e = by (last_of more)
     by (inl none) = inr (inr (ds, accepted, (h, alone, sym (none_more us more none) ∙ e)))
     by (inr (ys, y, is)) = front_of_told ds accepted h alone us ys (one_less us more ys (told_lines ds h) y (end_line (length (told_lines ds h))) is e)
 
--- the lines that a transcript begins with begin one
+pub begin_line_by_line : BeginLineByLine
+begin_line_by_line us more (inl (ds, accepted, (rest, is))) = inl (ds, accepted, (more ++ rest, sym (append_assoc us more rest) ∙ is))
+begin_line_by_line us more (inr (inl (ds, accepted, (h, alone, is)))) = front_of_told ds accepted h alone us more is
+begin_line_by_line us more (inr (inr (ds, accepted, (h, alone, is)))) = front_of_whole ds accepted h alone us more is
+
+-- the lines that a text begins with
 pub text_begins : (text rest : List ℕ) (us : List (List ℕ)) → AllNoEnd us → text ≡ flat_map ended us ++ rest → (n : ℕ) → IsTranscriptOf text n → BeginsTranscript us
 text_begins text rest us ends is n t =
     let cut = (some_meaning rest).1.2 in

@@ -1,7 +1,7 @@
 -- Declarations are accepted where more of them are.
-use Rattle.std.proofs.Common.{◌≡◌, ◌⊎◌, ◌≤◌, ℕ, ◌+◌, suc, Bool, true, false, cond, List, [], ◌∷◌, ◌++◌, inl, inr, length, Option, Some, None, Result, Ok, Err, refl, sym, ap, subst, ◌∙◌, append_assoc, length-append, arith}
+use Rattle.std.proofs.Common.{◌≡◌, ◌⊎◌, ◌≤◌, ℕ, ◌+◌, suc, Bool, true, false, cond, List, [], ◌∷◌, ◌++◌, inl, inr, length, None, Result, Ok, Err, refl, sym, ap, subst, ◌∙◌, append_assoc, length-append, arith}
 use Rattle.std.specs.Prelude.{is_some, ◌||◌}
-use Rattle.std.specs.List.{AllByRecursion, flat_map}
+use Rattle.std.specs.List.{flat_map}
 use Rattle.std.proofs.lemmas.List.{append-nil}
 use Rattle.pr_script.specs.declared.decl.Decl.{Decl}
 use Rattle.pr_script.specs.declared.item.Item.{Item}
@@ -9,7 +9,7 @@ use Rattle.pr_script.specs.declared.item.Item.TheVariants as items
 use Rattle.pr_script.specs.declared.script.Script.{Script}
 use Rattle.pr_script.specs.Lines.{line_item}
 use Rattle.pr_script.specs.Printing.{decl_lines, decl_text}
-use Rattle.pr_script.specs.Reading.{HasNoEnd, IsCut, Sofar, after, all_lines, answer_of, ended, is_skipped, next, passed, script_of, start, told}
+use Rattle.pr_script.specs.Reading.{IsCut, Sofar, after, all_lines, answer_of, ended, is_skipped, next, passed, script_of, start, told}
 use Rattle.pr_script.proofs.OneCut.{one_cut}
 use Rattle.pr_script.proofs.WholeScript.{answered, no_fault}
 use Rattle.pr_text.specs.Heads.{heads_text}

@@ -10,10 +10,9 @@ use Rattle.pr_script.specs.Reading.{HasNoEnd, IsCut, ended}
 use Rattle.pr_script.proofs.OneCut.{one_cut}
 use Rattle.pr_story.specs.History.{NodeEntry}
 use Rattle.pr_stamps.specs.declared.no_memory.NoMemory.{NoMemory}
-use Rattle.pr_text.specs.Histories.{transcript_text}
 use Rattle.pr_check.specs.Judging.{BeginsTranscript, IsBroken, IsTranscript, end_line, told_lines, whole_lines}
 use Rattle.pr_check.specs.Standing.{IsLastVerdict, IsVerdict, Judges, StandsAt}
-use Rattle.pr_check.specs.Texts.{HasFirstBad, HasFound, HasRead, IsJudged, IsJudgedAt, IsNone, IsTranscriptOf}
+use Rattle.pr_check.specs.Texts.{HasFirstBad, HasFound, HasRead, IsJudged, IsJudgedAt, IsTranscriptOf}
 use Rattle.pr_check.specs.declared.finding.Finding.{Finding}
 use Rattle.pr_check.specs.declared.finding.Finding.TheVariants as findings
 use Rattle.pr_check.specs.declared.judge.Judge.{Judge}

@@ -32,7 +32,7 @@ mod verdict;
 pub use head::{begins_head, no_decls, read_head};
 pub use judge::Judge;
 pub use judgement::Judgement;
-pub use law::events_are_given_by_what_lines_say;
+pub use law::{events_are_given_by_what_lines_say, transcripts_begin_line_by_line};
 pub use line::read_line;
 pub use said::Said;
 pub use text_judge::TextJudge;

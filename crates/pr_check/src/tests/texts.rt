@@ -46,7 +46,13 @@ fn other_texts_have_a_first_bad_line(rt: HostRuntime) -> Result<(), Fail> {
         (UNENDED, 3, 4),
     ];
     for (text, line, why) in &table {
-        assert!(rt; judgement(rt.alloc(), text, 3) == Some(Judgement::No { line: *line, why: *why }));
+        assert!(rt;
+            judgement(rt.alloc(), text, 3)
+                == Some(Judgement::No {
+                    line: *line,
+                    why: *why
+                })
+        );
     }
     Ok(())
 }
@@ -59,6 +65,12 @@ fn written(alloc: Global, judgement: &Judgement, line: &[u8]) -> bool {
 #[test]
 fn lines_of_judgements(rt: HostRuntime) -> Result<(), Fail> {
     assert!(rt; written(rt.alloc(), &Judgement::Yes { lines: 12 }, b"yes 12\n"));
-    assert!(rt; written(rt.alloc(), &Judgement::No { line: 25, why: 3 }, b"no 25 why 3\n"));
+    assert!(rt;
+        written(
+            rt.alloc(),
+            &Judgement::No { line: 25, why: 3 },
+            b"no 25 why 3\n"
+        )
+    );
     Ok(())
 }

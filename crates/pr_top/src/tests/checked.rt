@@ -16,13 +16,7 @@ const LATE: &[u8] =
     send t 3 precise a/x 1@A over - from B:2 to A:1,B:2\naccept t 3 at A:1,B:2\nidle t\n\
     read e a/x never at A:1,B:2\nok 25\n";
 
-fn says(
-    alloc: Global,
-    text: &[u8],
-    ports: &Ports,
-    status: u8,
-    line: &[u8],
-) -> Result<bool, Fail> {
+fn says(alloc: Global, text: &[u8], ports: &Ports, status: u8, line: &[u8]) -> Result<bool, Fail> {
     let (number, told) = called(alloc, &["check"], text, ports)?;
     Ok(number == status && told.as_slice() == line)
 }

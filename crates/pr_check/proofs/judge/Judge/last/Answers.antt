@@ -20,7 +20,7 @@ pub returns-then-not-branch : goal.returns-then-not-branch
 returns-then-not-branch c lines r head =
     bad_verdict lines c.args.line.now 4 c.args.self.now
     (bad_end c.args.self.now.decls.list c.args.engine.now lines c.args.line.now c.requires.decls.accepted r c.requires.none (sym c.starts_with.ensures.value ∙ c.if-not-starts_with.false)
-      (other_end c.args.self.now.decls.list r.1 lines c.args.line.now c.in_ok-is_last_line.field-0 r.4 (c.in_ok-is_last_line.ensures r.1 (tells (declared_of c.args.self.now.decls.list) r.0 r.1 c.args.engine.now r.2)) c.if-not-branch.true))
+    (other_end c.args.self.now.decls.list r.1 lines c.args.line.now c.in_ok-is_last_line.field-0 r.4 (c.in_ok-is_last_line.ensures r.1 (tells (declared_of c.args.self.now.decls.list) r.0 r.1 c.args.engine.now r.2)) c.if-not-branch.true))
     c.requires.spent
 
 pub returns : goal.returns
