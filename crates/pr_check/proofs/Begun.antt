@@ -119,7 +119,7 @@ no_head_last gs xs x none e = not_both (begins_head x) (last_head xs x (subst Al
 
 -- ---- lines that are no whole transcript
 
-told_more : (ds : List Decl) (e : NodeEntry) (h : List NodeEntry) → told_lines ds (e ∷ h) ≡ told_lines ds h ++ sentence ds e.node e.entry.event ∷ []
+pub told_more : (ds : List Decl) (e : NodeEntry) (h : List NodeEntry) → told_lines ds (e ∷ h) ≡ told_lines ds h ++ sentence ds e.node e.entry.event ∷ []
 told_more ds e h = sym (append_assoc (decl_lines [] ds) (event_lines ds h) (sentence ds e.node e.entry.event ∷ []))
 
 pub not_ended : (ds : List Decl) (h : List NodeEntry) (xs : List (List ℕ)) (n : ℕ) → told_lines ds h ≡ xs ++ end_line n ∷ [] → ⊥

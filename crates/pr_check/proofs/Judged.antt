@@ -195,7 +195,7 @@ has_sets plan h n t c (State at cut floor precise) l = λ none. some_set (map ha
         omega arith
 has_sets plan h n t c _ l = tt
 
-tellable : (ds : List Decl) (h : List NodeEntry) (e : NodeEntry) → IsAlone ds (e ∷ h) → IsTellableAt ds e.node e.entry.event
+pub tellable : (ds : List Decl) (h : List NodeEntry) (e : NodeEntry) → IsAlone ds (e ∷ h) → IsTellableAt ds e.node e.entry.event
 tellable ds h e alone = (
   alone.declared.0.0,
   record {
@@ -235,7 +235,7 @@ judged judge stage (inr usable) is other = usable
 
 pub usable_then : (lines : List (List ℕ)) (line : List ℕ) (now : Judge) (r : Result Verdict NoMemory) → IsVerdict lines line now r → IsUsable now
 usable_then lines line now (Ok verdicts.Good) v = inr (lines ++ line ∷ [], v.1)
-usable_then lines line now (Ok (verdicts.Bad why)) v = inl v.1
+usable_then lines line now (Ok (verdicts.Bad why)) v = inl v.2
 usable_then lines line now (Err fault) v = inl v
 
 pub replayed_so : (ds : List Decl) (said : Said) (line : List ℕ) (attached : ℕ → Bool) (h : List NodeEntry) (e : Engine) (a b : Bool) → a ≡ b → IsReplayed ds said line attached h e (Ok a) → IsReplayed ds said line attached h e (Ok b)

@@ -18,3 +18,9 @@ pub mod Remade
 pub mod Compared
 pub mod Begun
 pub mod Judged
+pub mod NoEnds
+pub mod CallersAside
+pub mod Prefixes
+pub mod Refused
+pub mod Fronts
+pub mod TextsRead

@@ -51,6 +51,10 @@ IsTranscript lines = (ds : List Decl) × AreAccepted ds × ((h : List NodeEntry)
 abbrev pub BeginsTranscript : List (List ℕ) → Type 0
 BeginsTranscript lines = BeginsHeads lines ⊎ (TellsHistory lines ⊎ IsTranscript lines)
 
+-- the first lines of what begins a transcript begin one
+abbrev pub BeginLineByLine : Type 0
+BeginLineByLine = (lines more : List (List ℕ)) → BeginsTranscript (lines ++ more) → BeginsTranscript lines
+
 -- ---- the first bad line
 
 abbrev pub BeginsOk : List ℕ → Type 0

@@ -7,3 +7,4 @@ pub mod Heads
 pub mod Judging
 pub mod Asking
 pub mod Standing
+pub mod Texts

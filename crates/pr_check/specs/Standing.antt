@@ -56,7 +56,7 @@ IsRefused (Err fault) = Unit {0}
 -- the verdict on a line behind these, which the judge then stands for too
 abbrev pub IsVerdict : List (List ℕ) → List ℕ → Judge → Result Verdict NoMemory → Type 0
 IsVerdict lines line now (Ok verdicts.Good) = BeginsTranscript (lines ++ line ∷ []) × Judges now (lines ++ line ∷ [])
-IsVerdict lines line now (Ok (verdicts.Bad why)) = IsBroken lines line why × IsSpent now
+IsVerdict lines line now (Ok (verdicts.Bad why)) = ¬ BeginsTranscript (lines ++ line ∷ []) × IsBroken lines line why × IsSpent now
 IsVerdict lines line now (Err fault) = IsSpent now
 
 -- the verdict at the end of the text

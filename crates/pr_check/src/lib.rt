@@ -5,8 +5,10 @@ mod answer;
 mod client;
 mod event;
 mod field;
+mod finding;
 mod head;
 mod judge;
+mod judgement;
 mod law;
 mod line;
 mod making;
@@ -22,13 +24,16 @@ mod stamp;
 mod stream;
 #[cfg(test)]
 mod tests;
+mod text_judge;
 mod told;
 mod vector;
 mod verdict;
 
 pub use head::{begins_head, no_decls, read_head};
 pub use judge::Judge;
-pub use law::events_are_given_by_what_lines_say;
+pub use judgement::Judgement;
+pub use law::{events_are_given_by_what_lines_say, transcripts_begin_line_by_line};
 pub use line::read_line;
 pub use said::Said;
+pub use text_judge::TextJudge;
 pub use verdict::Verdict;

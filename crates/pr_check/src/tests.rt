@@ -1,3 +1,5 @@
+mod texts;
+
 ghost use Rattle.pr_script.specs.Labels.{AreLabels};
 ghost use Rattle.std.specs.Prelude.{IfOk};
 

@@ -12,3 +12,4 @@ pub mod KindLists
 pub mod AskedRuns
 pub mod Unread
 pub mod Generated
+pub mod Judgements

@@ -1,6 +1,9 @@
 -- When the answers of the top call come, and what each leaves.
-use Rattle.std.specs.Prelude.{◌≡◌, ◌⊎◌, ◌≤◌, ◌<◌, ℕ, List, [], Option, Some, None, IfSome, codes}
+use Rattle.std.specs.Prelude.{◌≡◌, ◌⊎◌, ◌≤◌, ◌<◌, ℕ, List, [], Option, Some, None, IfSome, codes, take}
 use Rattle.std.specs.Io.KnownBytes.{Appends}
+use Rattle.pr_check.specs.Texts.{judgement_line}
+use Rattle.pr_check.specs.declared.judgement.Judgement.{Judgement}
+use Rattle.pr_check.specs.declared.judgement.Judgement.TheVariants as judgements
 use Rattle.pr_ports.specs.Faults.{HasRisen}
 use Rattle.pr_gen.specs.Workload.{workload}
 use Rattle.pr_script.specs.Labels.{number_among}
@@ -11,6 +14,7 @@ use Rattle.pr_words.specs.declared.job.Job.{Job}
 use Rattle.pr_words.specs.declared.job.Job.TheVariants as jobs
 use Rattle.pr_top.specs.Reading.{HasBadLine, HasScript}
 use Rattle.pr_top.specs.Asked.{HasAsked}
+use Rattle.pr_top.specs.Checked.{HasJudged, IsTooLong}
 use Rattle.pr_top.specs.Generated.{HasGenerated}
 use Rattle.pr_top.specs.Runs.{HasRun, WritesLine}
 use Rattle.pr_top.specs.Sizes.{IsTooLarge}
@@ -102,6 +106,19 @@ AnswersAsk label a b result =
     (s : Script) × (n : ℕ) × HasScript a.left b.left s × (number_among kinds.Node s.decls.list label ≡ Some n)
     × HasAsked result s n (HasRisen a.write_faults b.write_faults) a.text b.text
 
+-- the answer where a text is judged: that comes once it was read to its end, and its line alone is written
+abbrev pub AnswersCheck : Ports → Ports → Status → Type 0
+AnswersCheck a b status.Ok =
+    (lines : ℕ) × HasJudged a.left b.left (judgements.Yes lines) × Appends a.text b.text (judgement_line (judgements.Yes lines))
+AnswersCheck a b (status.No line why) =
+    HasJudged a.left b.left (judgements.No line why) × Appends a.text b.text (judgement_line (judgements.No line why))
+AnswersCheck a b status.WriteFault =
+    HasRisen a.write_faults b.write_faults × ((j : Judgement) × HasJudged a.left b.left j × ((n : ℕ) × Appends a.text b.text (take n (judgement_line j))))
+AnswersCheck a b status.ReadFault = HasRisen a.read_faults b.read_faults × Writes a b (error_line (codes "read"))
+AnswersCheck a b status.TooLarge = IfSome a.left IsTooLong × Writes a b (error_line (codes "too large"))
+AnswersCheck a b status.NoMemory = Writes a b (error_line (codes "no memory"))
+AnswersCheck a b _ = ⊥
+
 -- memory ran out before the words were read
 abbrev pub IsUnread : Ports → Ports → Status → Type 0
 IsUnread a b result = (result ≡ status.NoMemory) × Writes a b (error_line (codes "no memory"))
@@ -111,6 +128,7 @@ abbrev pub Answers : Option Job → Ports → Ports → Status → Type 0
 Answers (Some jobs.Sim) a b result = AnswersScript a b result
 Answers (Some (jobs.Gen seed size)) a b result =
     (size ≤ 90000 → AnswersGenerated (workload seed size) a b result) × (90000 < size → IsUnaccepted a b result)
+Answers (Some jobs.Check) a b result = AnswersCheck a b result
 Answers (Some (jobs.Ask node)) a b result = AnswersAsk node a b result ⊎ IsUnread a b result
 Answers _ a b result = IsUnaccepted a b result
 
@@ -126,5 +144,6 @@ number_of (status.Lied stream number sent got) = 6
 number_of status.NoMemory = 7
 number_of (status.Unmet line) = 8
 number_of (status.Worn at) = 9
+number_of (status.No line why) = 10
 number_of (status.BadBytes at) = 11
 number_of status.NoNode = 12

@@ -7,4 +7,5 @@ pub mod Stopping
 pub mod Silent
 pub mod Generated
 pub mod Asked
+pub mod Checked
 pub mod Answers

@@ -3,6 +3,7 @@
 
 mod asker;
 mod asking;
+mod checking;
 mod generating;
 mod nodes;
 mod reading;

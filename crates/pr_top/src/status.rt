@@ -7,7 +7,7 @@ use pr_script::Bytes;
 /// How the program ended. Each has an exit status and a last line (docs/TRANSCRIPT.md).
 #[derive(Drop)]
 pub enum Status {
-    /// All was done, and the whole transcript written.
+    /// All was done, and the whole transcript written; or a text is a transcript.
     Ok,
     /// The words are not accepted.
     Usage,
@@ -20,7 +20,8 @@ pub enum Status {
     ReadFault,
     /// The sink failed.
     WriteFault,
-    /// The script has more than 4,194,304 bytes, or goes on behind its 100,000th line.
+    /// The script has more than 4,194,304 bytes, or goes on behind its 100,000th line; or the text to be judged has more
+    /// than 67,108,864 bytes.
     TooLarge,
     /// A wire gave other bytes than those that were put for this message of the stream.
     Lied {
@@ -38,6 +39,11 @@ pub enum Status {
     /// A time or a clock would be past the greatest, which needs as many events.
     Worn {
         at: u64,
+    },
+    /// The text is no transcript: its first bad line, counted from 1, and what that breaks.
+    No {
+        line: u64,
+        why: u8,
     },
     /// At this byte behind the script's end no ask stands, or no message that may be taken in.
     BadBytes {
@@ -63,6 +69,7 @@ impl Status {
             Status::NoMemory => 7,
             Status::Unmet { .. } => 8,
             Status::Worn { .. } => 9,
+            Status::No { .. } => 10,
             Status::BadBytes { .. } => 11,
             Status::NoNode => 12,
         }

@@ -1,4 +1,5 @@
 mod asked;
+mod checked;
 mod worked;
 mod worked_more;
 

@@ -8,6 +8,7 @@ ghost use Rattle.std.specs.Prelude.{◌≡◌, ◌⊎◌, Some, codes, map, stri
 
 use crate::Status;
 use crate::asking::ask;
+use crate::checking::check;
 use crate::generating::generate;
 use crate::reading::{ReadError, read_script};
 use crate::running::run;
@@ -27,7 +28,8 @@ const MOST: u64 = 90_000;
 /// `sim` reads a script (docs/SCRIPT.md), runs it in one thread and writes its transcript (docs/TRANSCRIPT.md), each line
 /// as it comes. Reading takes time linear in the script's bytes and keeps its commands; the run takes the time of the
 /// nodes' calls and keeps their journals. `gen` reads nothing, runs the generated script of its seed and size, and writes
-/// the summary of the run. `ask` reads and runs a script, writes the asks of a node for the streams that end at it
+/// the summary of the run. `check` reads a text of at most 67,108,864 bytes as it comes, and writes whether it is a
+/// transcript, once it was read to its end; it takes the time that the events took, and keeps the nodes' journals. `ask` reads and runs a script, writes the asks of a node for the streams that end at it
 /// (docs/WIRE.md), and no line.
 pub fn practi<S: Source, K: Sink, W: Wires>(
     alloc: Global,
@@ -53,6 +55,7 @@ pub fn alone<S: Source, K: Sink>(alloc: Global, job: &Job, script: &mut S, out: 
     match job {
         Job::Sim => sim(alloc, script, out),
         Job::Gen { seed, size } if *size <= MOST => generate(alloc, *seed, *size, out),
+        Job::Check => check(alloc, script, out),
         Job::Ask { node } => ask(alloc, node.as_slice(), script, out),
         _ => usage(out),
     }

@@ -2,6 +2,7 @@ use Rattle.std.proofs.Common.{◌≡◌, sym, ◌∙◌}
 use Rattle.pr_check.proofs.Begun.{not_both}
 use Rattle.pr_check.specs.declared.stage.Stage.TheVariants as stages
 use Rattle.pr_check.proofs.Judged.{at_stage, good_decls, judged, new_replays, past_end, usable_then}
+use Rattle.pr_check.proofs.Refused.{bad_begins_none}
 use Rattle.pr_check.proofs.judge.Judge.line.Goals as goal
 
 pub new-requires : goal.new-requires
@@ -33,4 +34,5 @@ returns-in-Events-clause-usable c =
 
 pub returns-in-Ended-clause-verdict : goal.returns-in-Ended-clause-verdict
 returns-in-Ended-clause-verdict c lines j =
-    (past_end c.args.self.now.decls.list lines c.args.line.now j.decls.accepted (at_stage c.args.self.now lines stages.Ended j (sym c.replace.ensures.value ∙ c.in-Ended.is)), c.replace.ensures.after)
+    let bad = past_end c.args.self.now.decls.list lines c.args.line.now j.decls.accepted (at_stage c.args.self.now lines stages.Ended j (sym c.replace.ensures.value ∙ c.in-Ended.is)) in
+    (bad_begins_none lines c.args.line.now 4 bad, bad, c.replace.ensures.after)
