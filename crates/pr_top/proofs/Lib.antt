@@ -1,6 +1,7 @@
 pub mod Told
 pub mod Counting
 pub mod Held
+pub mod Given
 pub mod Coming
 pub mod Steps
 pub mod Promised
@@ -12,3 +13,8 @@ pub mod KindLists
 pub mod AskedRuns
 pub mod Unread
 pub mod Generated
+pub mod KeptDisks
+pub mod KeptEntries
+pub mod KeptRuns
+pub mod KeptTold
+pub mod KeptEnds

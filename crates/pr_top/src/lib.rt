@@ -4,6 +4,7 @@
 mod asker;
 mod asking;
 mod generating;
+mod keeping;
 mod nodes;
 mod reading;
 mod running;
@@ -17,5 +18,6 @@ mod tests;
 mod top;
 mod writing;
 
+pub use keeping::{KeptEnd, kept};
 pub use status::Status;
 pub use top::{alone, practi};
