@@ -15,6 +15,7 @@ use Rattle.pr_story.proofs.Begun.{nothing_begins}
 use Rattle.pr_text.specs.Histories.{EachGives, HasBegun, IsRunOf, first_of, joined, streams_of, unmet_from}
 use Rattle.pr_text.specs.Steps.{lines_of, step_line}
 use Rattle.pr_top.specs.Progress.{HasCome, IsLast}
+use Rattle.pr_top.proofs.Given.{given_more}
 
 -- ---- lists
 
@@ -59,6 +60,7 @@ come_more s c cs rest h e f unmet unmet_now k new step i = record {
         old.2 ∙ joined_more h new (reverse new) (joined parts) refl,
         old.3 ∙ ap (λ (steps : List Step). first_of unmet (unmet_from k.last steps (reverse new ∷ parts))) i.steps ∙ i.judged (steps_of rest) parts,
       );
+  given = given_more s (c ∷ cs) rest k.attached k.last h new unmet unmet_now step i.steps i.gave (i.judged [] []) k.given;
   begins = λ es begun.
       subst (λ (xs : List NodeEntry). AreBegun JobAfterJob (streams_of s.decls.list) (λ t. false) (lines_of s.commands) xs) (joined_more h new (reverse new) es refl)
       (k.begins (reverse new ++ es) (subst (λ (steps : List Step). AreBegun JobAfterJob (streams_of s.decls.list) k.attached (map step_line steps) (reverse new ++ es)) (sym i.steps) (inr (reverse new, es, refl, i.gave, begun))));
@@ -85,6 +87,7 @@ start s e good running = record {
   whole = good.whole;
   read = λ is. absurd (cc);
   gives = λ parts each. (parts, each, refl, refl);
+  given = record { before = []; parts = []; steps = refl; each = tt; attached_are = refl; whole = refl; last_is = refl; unmet_is = refl };
   begins = λ es begun. begun;
 }
 

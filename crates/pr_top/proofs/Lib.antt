@@ -1,6 +1,7 @@
 pub mod Told
 pub mod Counting
 pub mod Held
+pub mod Given
 pub mod Coming
 pub mod Steps
 pub mod Promised
@@ -13,3 +14,8 @@ pub mod AskedRuns
 pub mod Unread
 pub mod Generated
 pub mod Judgements
+pub mod KeptDisks
+pub mod KeptEntries
+pub mod KeptRuns
+pub mod KeptTold
+pub mod KeptEnds

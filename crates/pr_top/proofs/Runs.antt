@@ -1,5 +1,5 @@
 -- What comes of running a script's commands, and of writing their lines.
-use Rattle.std.proofs.Common.{◌≡◌, ℕ, ◌+◌, ◌-◌, ◌<◌, ◌≤◌, List, [], ◌∷◌, ◌++◌, Option, Some, None, Result, Ok, Err, inl, inr, refl, sym, ◌∙◌, ap, subst, append_assoc, codes, drop, get_or, length, length-drop, reverse, take, arith}
+use Rattle.std.proofs.Common.{◌≡◌, ◌⊎◌, ℕ, ◌+◌, ◌-◌, ◌<◌, ◌≤◌, List, [], ◌∷◌, ◌++◌, Option, Some, None, Result, Ok, Err, inl, inr, refl, sym, ◌∙◌, ap, subst, append_assoc, codes, drop, get_or, length, length-drop, reverse, take, arith}
 use Rattle.std.specs.Prelude.{false, IfOk}
 use Rattle.std.specs.Io.KnownBytes.{Appends}
 use Rattle.std.proofs.lemmas.List.{drop-drop, drop_all, drop_more, length-append, take_all, take_rest}
@@ -18,7 +18,7 @@ use Rattle.pr_text.specs.Steps.{lines_of}
 use Rattle.pr_text.specs.Transcripts.{lines_text, plan_of}
 use Rattle.pr_text.specs.Numbers.{counts_of}
 use Rattle.pr_text.proofs.Runs.{runs_give}
-use Rattle.pr_top.specs.Progress.{HasCome, HasRunAll, HasStepped, HasStopped, HasTold, IsExpected, IsHistoryOfDecls, Writes, entry_lines}
+use Rattle.pr_top.specs.Progress.{HasCome, HasRunAll, HasStepped, HasStopped, HasTold, IsExpected, IsHistoryOfDecls, IsMadeBy, Writes, entry_lines}
 use Rattle.pr_top.specs.Runs.{HasRun, IsLine, WritesLine, told_text}
 use Rattle.pr_top.specs.declared.running.Expected.{Expected}
 use Rattle.pr_top.specs.declared.status.Status.TheVariants as status
@@ -42,7 +42,7 @@ stop_here s rest h e unmet k = record {
 -- and so may one behind a step
 pub stepped_stops : (s : Script) (rest : List Numbered) (h : List NodeEntry) (e : Engine) (unmet : Option ℕ) (r : Result ℕ Halt) → HasStepped s rest h e unmet r → (new : List NodeEntry) × HasStopped s (new ++ h) e halts.NoMemory
 stepped_stops s rest h e unmet (Ok n) stepped = (stepped.1.0, stop_here s (drop (n + 1) rest) (stepped.1.0 ++ h) e unmet stepped.1.1)
-stepped_stops s rest h e unmet (Err halt) (new, stopped) = (new, record { tells = stopped.tells; begun = stopped.begun; cause = tt })
+stepped_stops s rest h e unmet (Err halt) (new, stopped, made) = (new, record { tells = stopped.tells; begun = stopped.begun; cause = tt })
 
 pub told_within : (new h : List NodeEntry) (told : ℕ) → told ≡ length h → told ≤ length (new ++ h)
 told_within new h told is = let l = length-append new h in omega arith
@@ -259,8 +259,17 @@ module _ (s : Script) (list : List Numbered) (first : Numbered) (at told : ℕ) 
   pub stops_now : (new : List NodeEntry) × HasStopped s (new ++ w.h) f halts.NoMemory
   stops_now = stepped_stops s (first ∷ take (length list - (at + 1)) (drop (at + 1) list)) w.h f v r stepped_now
 
+  pub made_now : (new : List NodeEntry) × HasStopped s (new ++ w.h) f halts.NoMemory × ((new ≡ []) ⊎ IsMadeBy s w.h new v)
+  made_now = by r stepped_now
+    where
+      by : (x : Result ℕ Halt) → HasStepped s (first ∷ take (length list - (at + 1)) (drop (at + 1) list)) w.h f v x → (new : List NodeEntry) × HasStopped s (new ++ w.h) f halts.NoMemory × ((new ≡ []) ⊎ IsMadeBy s w.h new v)
+      by (Ok n) went = (went.1.0, stop_here s (drop (n + 1) (first ∷ take (length list - (at + 1)) (drop (at + 1) list))) (went.1.0 ++ w.h) f v went.1.1, went.1.2)
+      by (Err halt) (new, stopped, made) = (new, record { tells = stopped.tells; begun = stopped.begun; cause = tt }, inr made)
+
   pub halted_now : (halt : Halt) → r ≡ Err halt → (new : List NodeEntry) × HasStopped s (new ++ w.h) f halt
-  halted_now halt ended = subst (λ (x : Result ℕ Halt). HasStepped s (first ∷ take (length list - (at + 1)) (drop (at + 1) list)) w.h f v x) ended stepped_now
+  halted_now halt ended =
+      let halted = subst (λ (x : Result ℕ Halt). HasStepped s (first ∷ take (length list - (at + 1)) (drop (at + 1) list)) w.h f v x) ended stepped_now in
+      (halted.0, halted.1)
 
   pub went_now : (n : ℕ) → r ≡ Ok n → (at + (n + 1) ≤ length list) × ((new : List NodeEntry) × HasCome s (drop (n + 1) (drop at s.commands)) (new ++ w.h) f v)
   went_now n ended =

@@ -1,5 +1,5 @@
 -- What the engine's answer makes of a run.
-use Rattle.std.proofs.Common.{◌≡◌, ℕ, suc, ◌+◌, ◌-◌, ◌<◌, ◌≤◌, List, [], ◌∷◌, ◌++◌, Result, Ok, Err, refl, sym, ◌∙◌, ap, subst, cond, drop, filter, get_or, length, not, reverse, take, arith}
+use Rattle.std.proofs.Common.{◌≡◌, ℕ, suc, ◌+◌, ◌-◌, ◌<◌, ◌≤◌, List, [], ◌∷◌, ◌++◌, Result, Ok, Err, inr, refl, sym, ◌∙◌, ap, subst, cond, drop, filter, get_or, length, not, reverse, take, arith}
 use Rattle.std.specs.Prelude.{true, false, Bool, IsTrue, Some, None, Option}
 use Rattle.std.specs.List.{AllByRecursion, position_or_len}
 use Rattle.std.proofs.lemmas.List.{get_or_push, length-reverse, reverse-reverse}
@@ -34,6 +34,7 @@ use Rattle.pr_top.specs.Stopping.{IsWent}
 use Rattle.pr_top.specs.declared.stepping.Halt.{Halt}
 use Rattle.pr_top.specs.declared.stepping.Halt.TheVariants as halts
 use Rattle.pr_top.proofs.Coming.{come_more, stop_more}
+use Rattle.pr_top.proofs.Given.{gave_begins, made_by}
 
 -- ---- the engine's stop
 
@@ -143,6 +144,8 @@ module _ (s : Script) (c : Numbered) (cs : List Numbered) (h : List NodeEntry) (
             all.0,
             is_step f all.0 unmet all.1 all.2
                 (λ steps parts. ap (λ (b : Bool). first_of unmet (first_of (cond b (Some c.0) None) (unmet_from (reverse all.0) steps parts))) (not_judged c.1 k.last alone)),
+            inr (made_by s (c ∷ cs) (steps_of cs) k.attached k.last h all.0 unmet (Alone c) steps_alone
+                (gave_begins JobAfterJob (filter k.attached (streams_of s.decls.list)) (line_of c.1) (reverse all.0) all.2) k.given),
           ),
         )
 
@@ -156,6 +159,7 @@ module _ (s : Script) (c : Numbered) (cs : List Numbered) (h : List NodeEntry) (
             begun = stop_more s c cs cs h e unmet k cut.0 (Alone c) steps_alone cut.2;
             cause = cut.3;
           },
+          made_by s (c ∷ cs) (steps_of cs) k.attached k.last h cut.0 unmet (Alone c) steps_alone cut.2 k.given,
         )
 
   -- ---- a phase
@@ -205,6 +209,8 @@ module _ (s : Script) (c : Numbered) (cs : List Numbered) (h : List NodeEntry) (
                   read = λ is. absurd (cc);
                   judged = λ steps parts. refl;
                 })),
+            inr (made_by s (c ∷ cs) (steps_of (drop (n + 1) cs)) k.attached k.last h all.0 unmet (script.Phase (take n cs)) steps_phase
+                (gave_begins JobAfterJob (filter k.attached (streams_of s.decls.list)) (Phase (jobs_of (take n cs))) (reverse all.0) all.2) k.given),
           ),
         )
 
@@ -218,6 +224,7 @@ module _ (s : Script) (c : Numbered) (cs : List Numbered) (h : List NodeEntry) (
             begun = stop_more s c cs (drop (n + 1) cs) h e unmet k cut.0 (script.Phase (take n cs)) steps_phase cut.2;
             cause = cut.3;
           },
+          made_by s (c ∷ cs) (steps_of (drop (n + 1) cs)) k.attached k.last h cut.0 unmet (script.Phase (take n cs)) steps_phase cut.2 k.given,
         )
 
 -- ---- an expectation

@@ -5,6 +5,8 @@ pub mod Reading
 pub mod Progress
 pub mod Stopping
 pub mod Silent
+pub mod Kept
+pub mod KeptProgress
 pub mod Generated
 pub mod Asked
 pub mod Checked

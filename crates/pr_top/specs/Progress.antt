@@ -1,5 +1,5 @@
 -- How far the run of a script has come.
-use Rattle.std.specs.Prelude.{◌≡◌, ◌≤◌, ◌<◌, ◌+◌, ◌++◌, ℕ, List, [], ◌∷◌, Bool, false, IsTrue, Option, Some, None, Result, Ok, Err, drop, length, map, reverse, take}
+use Rattle.std.specs.Prelude.{◌≡◌, ◌⊎◌, ◌≤◌, ◌<◌, ◌+◌, ◌++◌, ℕ, List, [], ◌∷◌, Bool, false, IsTrue, Option, Some, None, Result, Ok, Err, drop, filter, length, map, reverse, take}
 use Rattle.std.specs.Io.KnownBytes.{Appends}
 use Rattle.std.specs.List.{flat_map}
 use Rattle.pr_script.specs.declared.decl.Decl.{Decl}
@@ -7,16 +7,16 @@ use Rattle.pr_script.specs.declared.command.Command.{Command}
 use Rattle.pr_script.specs.declared.command.Command.TheVariants as commands
 use Rattle.pr_script.specs.declared.script.Script.{Script}
 use Rattle.pr_script.specs.Good.{AreGoodSteps}
-use Rattle.pr_script.specs.Steps.{AreWhole, Numbered, steps_of}
+use Rattle.pr_script.specs.Steps.{AreWhole, Numbered, Step, steps_of}
 use Rattle.pr_sim.specs.Making.{declared_of}
 use Rattle.pr_sim.specs.Running.{IsRunning, Tells}
 use Rattle.pr_sim.specs.Stepping.{AreAttached}
 use Rattle.pr_sim.specs.declared.engine.Engine.{Engine}
 use Rattle.pr_story.specs.History.{NodeEntry}
 use Rattle.pr_story.specs.Counts.{IsHistory}
-use Rattle.pr_story.specs.Scripts.{AreBegun, JobAfterJob}
+use Rattle.pr_story.specs.Scripts.{AreBegun, JobAfterJob, LineBegins}
 use Rattle.pr_text.specs.Endings.{unmet_line}
-use Rattle.pr_text.specs.Histories.{EachGives, HasBegun, IsRunOf, joined, first_of, streams_of, transcript_text, unmet_from}
+use Rattle.pr_text.specs.Histories.{EachGives, HasBegun, IsRunOf, attached_by, first_of, joined, last_part, streams_of, transcript_text, unmet_from}
 use Rattle.pr_text.specs.Lines.{line_text}
 use Rattle.pr_text.specs.Numbers.{counts_of}
 use Rattle.pr_text.specs.Steps.{lines_of, step_line}
@@ -34,6 +34,31 @@ pub record IsLast (last h : List NodeEntry) : Type 0 where
   pub alone : last ≡ entry ∷ []
   pub newest : h ≡ entry ∷ before
 
+-- the steps before the commands that are left gave these parts, which are the history: so these streams are attached, the
+-- last part is that of the step just before, and this is the line of the first expectation that was not met
+pub record HasGiven (s : Script) (rest : List Numbered) (attached : ℕ → Bool) (last h : List NodeEntry) (unmet : Option ℕ) : Type 0 where
+  pub before : List Step
+  pub parts : List (List NodeEntry)
+  pub steps : steps_of s.commands ≡ before ++ steps_of rest
+  pub each : EachGives JobAfterJob (streams_of s.decls.list) (λ t. false) (map step_line before) parts
+  pub attached_are : attached ≡ attached_by (map step_line before) (λ t. false)
+  pub whole : joined parts ≡ reverse h
+  pub last_is : last ≡ last_part [] parts
+  pub unmet_is : unmet ≡ unmet_from [] before parts
+
+-- behind the history, which the steps before gave, a step made these entries more: those of its line, or such a beginning;
+-- and this is the line of the first expectation of the steps before that was not met
+pub record IsMadeBy (s : Script) (h new : List NodeEntry) (unmet : Option ℕ) : Type 0 where
+  pub before : List Step
+  pub step : Step
+  pub behind : List Step
+  pub parts : List (List NodeEntry)
+  pub steps : steps_of s.commands ≡ before ++ step ∷ behind
+  pub each : EachGives JobAfterJob (streams_of s.decls.list) (λ t. false) (map step_line before) parts
+  pub whole : joined parts ≡ reverse h
+  pub begins : LineBegins JobAfterJob (filter (attached_by (map step_line before) (λ t. false)) (streams_of s.decls.list)) (step_line step) (reverse new)
+  pub unmet_is : unmet ≡ unmet_from [] before parts
+
 -- the engine has run the script up to the commands that are left, which gave the history, and this is the line of the
 -- first expectation so far that was not met: whatever the rest gives, or begins, the whole script gives, or begins
 pub record HasCome (s : Script) (rest : List Numbered) (h : List NodeEntry) (e : Engine) (unmet : Option ℕ) : Type 0 where
@@ -49,6 +74,7 @@ pub record HasCome (s : Script) (rest : List Numbered) (h : List NodeEntry) (e :
   pub gives : (parts : List (List NodeEntry)) → EachGives JobAfterJob (streams_of s.decls.list) attached (map step_line (steps_of rest)) parts
       → (all : List (List NodeEntry)) × EachGives JobAfterJob (streams_of s.decls.list) (λ t. false) (lines_of s.commands) all
       × (joined all ≡ reverse h ++ joined parts) × (unmet_from [] (steps_of s.commands) all ≡ first_of unmet (unmet_from last (steps_of rest) parts))
+  pub given : HasGiven s rest attached last h unmet
   pub begins : (es : List NodeEntry) → AreBegun JobAfterJob (streams_of s.decls.list) attached (map step_line (steps_of rest)) es
       → AreBegun JobAfterJob (streams_of s.decls.list) (λ t. false) (lines_of s.commands) (reverse h ++ es)
 
@@ -76,8 +102,9 @@ pub record HasStopped (s : Script) (h : List NodeEntry) (e : Engine) (halt : Hal
 
 -- a step ran the first of the commands that are left and so many behind it, or the run stopped
 abbrev pub HasStepped : Script → List Numbered → List NodeEntry → Engine → Option ℕ → Result ℕ Halt → Type 0
-HasStepped s rest h e unmet (Ok n) = (n < length rest) × ((new : List NodeEntry) × HasCome s (drop (n + 1) rest) (new ++ h) e unmet)
-HasStepped s rest h e unmet (Err halt) = (new : List NodeEntry) × HasStopped s (new ++ h) e halt
+HasStepped s rest h e unmet (Ok n) =
+    (n < length rest) × ((new : List NodeEntry) × HasCome s (drop (n + 1) rest) (new ++ h) e unmet × ((new ≡ []) ⊎ IsMadeBy s h new unmet))
+HasStepped s rest h e unmet (Err halt) = (new : List NodeEntry) × HasStopped s (new ++ h) e halt × IsMadeBy s h new unmet
 
 -- ---- lines
 

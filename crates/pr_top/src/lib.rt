@@ -5,6 +5,7 @@ mod asker;
 mod asking;
 mod checking;
 mod generating;
+mod keeping;
 mod nodes;
 mod reading;
 mod running;
@@ -18,5 +19,6 @@ mod tests;
 mod top;
 mod writing;
 
+pub use keeping::{KeptEnd, kept};
 pub use status::Status;
 pub use top::{alone, practi};

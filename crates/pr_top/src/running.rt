@@ -39,11 +39,11 @@ pub fn run<K: Sink>(alloc: Global, script: &Script, out: &mut K) -> Status
     }
 }
 
-// The first expectation that was not met: its line, and the line that tells it.
+/// The first expectation that was not met: its line, and the line that tells it.
 #[derive(Drop)]
-struct Expected {
-    line: u64,
-    text: Bytes,
+pub struct Expected {
+    pub line: u64,
+    pub text: Bytes,
 }
 
 // Writes the transcript up to its `ok` line.
@@ -85,8 +85,8 @@ fn commands<K: Sink>(alloc: Global, script: &Script, run: &mut Run, out: &mut K)
     Ok(())
 }
 
-// Writes the lines of the entries from this place on, and answers how many entries there are.
-fn tell_from<K: Sink>(
+/// Writes the lines of the entries from this place on, and answers how many entries there are.
+pub fn tell_from<K: Sink>(
     alloc: Global,
     decls: &Decls,
     engine: &Engine,
@@ -128,8 +128,8 @@ fn tell_entry<K: Sink>(
     write(out, text.as_slice())
 }
 
-// Writes the `ok` line, and makes the line of what was not met.
-fn end<K: Sink>(
+/// Writes the `ok` line, and makes the line of what was not met.
+pub fn end<K: Sink>(
     alloc: Global,
     script: &Script,
     run: &Run,
@@ -149,8 +149,8 @@ fn end<K: Sink>(
     Ok(expected)
 }
 
-// What is to be told of the first expectation that was not met.
-fn to_tell(alloc: Global, line: Option<u64>) -> Result<Option<Expected>, NoMemory>
+/// What is to be told of the first expectation that was not met.
+pub fn to_tell(alloc: Global, line: Option<u64>) -> Result<Option<Expected>, NoMemory>
     ensures { IfOk result (IsExpected line) }
 {
     match line {

@@ -1,4 +1,4 @@
-use Rattle.std.proofs.Common.{◌∷◌, [], arith, subst}
+use Rattle.std.proofs.Common.{◌∷◌, [], arith, inl, refl, subst}
 use Rattle.pr_script.specs.declared.command.Command.{Command}
 use Rattle.pr_top.specs.Progress.{HasCome}
 use Rattle.pr_top.proofs.stepping.Run.step.Goals as goal
@@ -9,5 +9,6 @@ returns-in-Expect c = λ s h k. (
   (
     [],
     c.judge.ensures s h (subst (λ (x : Command). HasCome s ((c.args.first.now.0, x) ∷ c.args.behind.now) h c.args.self.now.engine c.args.self.now.unmet) c.in-Expect.is k),
+    inl refl,
   ),
 )

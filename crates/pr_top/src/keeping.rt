@@ -1,0 +1,236 @@
+// A script is run, and each entry kept on a disk before its line is written.
+ghost use Rattle.pr_keep.specs.Calls.{IsNotDamaged};
+ghost use Rattle.pr_keep.specs.Keeping.{Keeps};
+ghost use Rattle.pr_ports.specs.Faults.{HasRisen};
+ghost use Rattle.pr_script.specs.Good.{IsGood};
+ghost use Rattle.pr_sim.specs.Making.{declared_of};
+ghost use Rattle.pr_sim.specs.Running.{Tells};
+ghost use Rattle.pr_story.specs.Counts.{Declared};
+ghost use Rattle.pr_story.specs.History.{NodeEntry};
+ghost use Rattle.pr_text.specs.Heads.{heads_text};
+ghost use Rattle.pr_top.specs.Kept.{HasRunKept, placed};
+ghost use Rattle.pr_top.specs.KeptProgress.{HasEndedSo, HasKeptAll, HasKeptFrom, HasKeptTold, IsUnmade, TellsHalt, break_of};
+ghost use Rattle.pr_top.specs.Progress.{HasCome, Writes};
+ghost use Rattle.pr_top.specs.declared.keeping.Break.TheVariants as breaks;
+ghost use Rattle.pr_top.specs.declared.stepping.Halt.TheVariants as halts;
+ghost use Rattle.std.specs.Prelude.{◌≡◌, ◌≤◌, [], List, length, reverse, take};
+
+use crate::Status;
+use crate::running::{Expected, end, tell_from, write};
+use crate::stepping::{Halt, Run};
+use crate::telling::tell;
+use pr_keep::{Disk, Keep, KeepFault, KeepRefused};
+use pr_ports::Sink;
+use pr_script::{Decls, Script};
+use pr_sim::Engine;
+use pr_stamps::{NoMemory, Seq};
+use pr_text::heads;
+use std::alloc::Global;
+
+/// How a kept run ended.
+#[derive(Drop)]
+pub enum KeptEnd {
+    /// As a run without a disk does.
+    Ended { status: Status },
+    /// The disk failed. So many lines were written whole, and nothing past them; `unmet` is the line of the first
+    /// expectation that was judged and not met.
+    Stopped { lines: u64, unmet: Option<u64> },
+}
+
+/// Why a kept run did not come to the end of its script.
+#[derive(Clone, Copy)]
+pub enum Break {
+    Halted(Halt),
+    /// The disk failed where the lines of so many entries were written.
+    Stopped { told: usize, unmet: Option<u64> },
+}
+
+impl From<Halt> for Break {
+    ghost from_gives = { λ halt result. result ≡ breaks.Halted halt };
+
+    fn from(halt: Halt) -> Break {
+        Break::Halted(halt)
+    }
+}
+
+impl From<NoMemory> for Break {
+    ghost from_gives = { λ _ result. result ≡ breaks.Halted halts.NoMemory };
+
+    fn from(_refused: NoMemory) -> Break {
+        Break::Halted(Halt::NoMemory)
+    }
+}
+
+/// Makes a file on an empty disk, and then runs the script in one thread: each command's entries are kept one by one, in
+/// the order of the history, before any of their lines is written. It ends where the script does, or at the first call
+/// that the disk fails. It takes the time of the run, and of four calls of the disk for each entry.
+pub fn kept<D: Disk, K: Sink>(alloc: Global, script: &Script, disk: D, out: &mut K) -> (KeptEnd, D)
+    requires good { IsGood script.now }
+    requires empty { (D.state disk).reads ≡ [] }
+    ensures run { HasRunKept D.state D.images D.moment D.images_since disk result.1 result.0 script.now (HasRisen (K.faults out.old) (K.faults out.new)) (K.text out.old) (K.text out.new) }
+    ensures rises { K.faults out.old ≤ K.faults out.new }
+{
+    match Keep::format(alloc, disk) {
+        Ok(mut keep) => {
+            let end = run_kept(alloc, script, &mut keep, out);
+            (end, keep.close())
+        }
+        Err(KeepRefused { disk, fault }) => {
+            let end = unmade(fault, out);
+            (end, disk)
+        }
+    }
+}
+
+// Where no file was made, nothing is run.
+fn unmade<K: Sink>(fault: KeepFault, out: &mut K) -> KeptEnd
+    requires { IsNotDamaged fault }
+    ensures end { IsUnmade (HasRisen (K.faults out.old) (K.faults out.new)) fault (K.text out.old) (K.text out.new) result }
+    ensures rises { K.faults out.old ≤ K.faults out.new }
+{
+    match fault {
+        KeepFault::Failed => KeptEnd::Stopped {
+            lines: 0,
+            unmet: None,
+        },
+        KeepFault::NoMemory => {
+            let status = tell(out, Status::NoMemory, b"error no memory\n");
+            KeptEnd::Ended { status }
+        }
+        KeepFault::Damaged { .. } => unreachable!(),
+    }
+}
+
+// Runs a script over a file of no entry.
+fn run_kept<D: Disk, K: Sink>(
+    alloc: Global,
+    script: &Script,
+    keep: &mut Keep<D>,
+    out: &mut K,
+) -> KeptEnd
+    requires good { IsGood script.now }
+    requires kept { Keeps D.state D.images keep.old [] }
+    ensures run { HasEndedSo D.state D.images D.moment D.images_since keep.old keep.new script.now (HasRisen (K.faults out.old) (K.faults out.new)) (K.text out.old) (K.text out.new) result }
+    ensures rises { K.faults out.old ≤ K.faults out.new }
+{
+    match transcript(alloc, script, keep, out) {
+        Ok(None) => KeptEnd::Ended { status: Status::Ok },
+        Ok(Some(Expected { line, text })) => {
+            let status = tell(out, Status::Unmet { line }, text.as_slice());
+            KeptEnd::Ended { status }
+        }
+        Err(Break::Halted(halt)) => halted(out, halt),
+        Err(Break::Stopped { told, unmet }) => {
+            let heads = script.decls.list.as_slice().len() as u64;
+            let lines = heads.saturating_add(told as u64);
+            KeptEnd::Stopped { lines, unmet }
+        }
+    }
+}
+
+// Tells why the run halted.
+fn halted<K: Sink>(out: &mut K, halt: Halt) -> KeptEnd
+    ensures halt { TellsHalt (HasRisen (K.faults out.old) (K.faults out.new)) halt (K.text out.old) (K.text out.new) result }
+    ensures rises { K.faults out.old ≤ K.faults out.new }
+{
+    match halt {
+        Halt::WriteFault => KeptEnd::Ended {
+            status: Status::WriteFault,
+        },
+        Halt::Worn { at } => {
+            let status = tell(out, Status::Worn { at }, b"error worn\n");
+            KeptEnd::Ended { status }
+        }
+        Halt::NoMemory => {
+            let status = tell(out, Status::NoMemory, b"error no memory\n");
+            KeptEnd::Ended { status }
+        }
+    }
+}
+
+// Writes the transcript up to its `ok` line, each entry kept before its line.
+fn transcript<D: Disk, K: Sink>(
+    alloc: Global,
+    script: &Script,
+    keep: &mut Keep<D>,
+    out: &mut K,
+) -> Result<Option<Expected>, Break>
+    requires good { IsGood script.now }
+    requires kept { Keeps D.state D.images keep.old [] }
+    ensures told { HasKeptTold D.state D.images D.moment D.images_since keep.old keep.new script.now (HasRisen (K.faults out.old) (K.faults out.new)) (K.text out.old) (K.text out.new) result }
+    ensures rises { K.faults out.old ≤ K.faults out.new }
+{
+    tell_heads(alloc, &script.decls, out)?;
+    let engine = Engine::new(alloc, &script.decls)?;
+    let mut run = Run {
+        engine,
+        unmet: None,
+    };
+    commands(alloc, script, &mut run, keep, out)?;
+    Ok(end(alloc, script, &run, out)?)
+}
+
+// Writes the head lines.
+fn tell_heads<K: Sink>(alloc: Global, decls: &Decls, out: &mut K) -> Result<(), Halt>
+    ensures told { Writes (heads_text decls.now.list) (HasRisen (K.faults out.old) (K.faults out.new)) (K.text out.old) (K.text out.new) result }
+    ensures rises { K.faults out.old ≤ K.faults out.new }
+{
+    let mut text = Seq::new(alloc);
+    heads(alloc, decls, &mut text)?;
+    write(out, text.as_slice())
+}
+
+// Runs all commands. Each one's entries are kept, and then their lines written, before the next runs.
+fn commands<D: Disk, K: Sink>(
+    alloc: Global,
+    script: &Script,
+    run: &mut Run,
+    keep: &mut Keep<D>,
+    out: &mut K,
+) -> Result<(), Break>
+    requires come { HasCome script.now script.now.commands [] run.old.engine run.old.unmet }
+    requires kept { Keeps D.state D.images keep.old [] }
+    ensures run { HasKeptAll D.state D.images D.moment D.images_since keep.old keep.new script.now (HasRisen (K.faults out.old) (K.faults out.new)) (K.text out.old) (K.text out.new) run.new.engine run.new.unmet result }
+    ensures rises { K.faults out.old ≤ K.faults out.new }
+{
+    let list = script.commands.as_slice();
+    let mut told = 0;
+    let mut at = 0;
+    while at < list.len() {
+        let step = run.step(&list[at], &list[at + 1..]);
+        keep_from(&run.engine, told, run.unmet, keep)?;
+        told = tell_from(alloc, &script.decls, &run.engine, told, out)?;
+        at += step? + 1;
+    }
+    Ok(())
+}
+
+// Keeps the entries from this place on, the oldest first.
+fn keep_from<D: Disk>(
+    engine: &Engine,
+    told: usize,
+    unmet: Option<u64>,
+    keep: &mut Keep<D>,
+) -> Result<(), Break>
+    requires { (d : Declared) × (h : List NodeEntry) × Tells d h engine.now × (told ≤ length h) × Keeps D.state D.images keep.old (take told (placed (reverse h))) }
+    ensures { (d : Declared) (h : List NodeEntry) → Tells d h engine.now → told ≤ length h → Keeps D.state D.images keep.old (take told (placed (reverse h))) → HasKeptFrom D.state D.images D.moment D.images_since keep.old keep.new (placed (reverse h)) told unmet result }
+{
+    let len = engine.history().len();
+    for at in told..len {
+        match keep.append(engine.node_of(at), engine.entry(at)) {
+            Ok(()) => {}
+            Err(fault) => return Err(broken(fault, told, unmet)),
+        }
+    }
+    Ok(())
+}
+
+// How a run breaks off where an entry was not kept.
+fn broken(fault: KeepFault, told: usize, unmet: Option<u64>) -> Break
+    ensures { result ≡ break_of fault told unmet }
+{
+    match fault {
+        KeepFault::Failed => Break::Stopped { told, unmet },
+        _ => Break::Halted(Halt::NoMemory),
+    }
+}
