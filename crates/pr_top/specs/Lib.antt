@@ -7,4 +7,8 @@ pub mod Stopping
 pub mod Silent
 pub mod Generated
 pub mod Asked
+pub mod Fronts
+pub mod Unended
+pub mod Served
+pub mod Pulled
 pub mod Answers

@@ -3,14 +3,19 @@
 
 mod asker;
 mod asking;
+mod fronts;
 mod generating;
+mod left;
 mod nodes;
+mod pulling;
 mod reading;
 mod running;
+mod serving;
 mod silent;
 mod size;
 mod status;
 mod stepping;
+mod streams;
 mod telling;
 #[cfg(test)]
 mod tests;

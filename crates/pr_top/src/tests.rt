@@ -1,4 +1,5 @@
 mod asked;
+mod served;
 mod worked;
 mod worked_more;
 
