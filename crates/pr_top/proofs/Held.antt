@@ -3,7 +3,9 @@ use Rattle.std.proofs.Common.{◌≡◌, ℕ, List, [], ◌++◌, Option, None, 
 use Rattle.std.specs.Prelude.{IfSome, OnOk, is_err, false}
 use Rattle.std.specs.Io.KnownBytes.{Consumes, IsAtEnd}
 use Rattle.std.proofs.lemmas.List.{append-nil}
+use Rattle.pr_script.specs.Reading.{Kept}
 use Rattle.pr_script.specs.declared.script.Script.{Script}
+use Rattle.pr_top.specs.Fronts.{IsTaken}
 use Rattle.pr_top.specs.Reading.{IsFinished, IsRead, IsReadSo}
 use Rattle.pr_top.specs.Sizes.{IsSizeOf, IsTooLarge}
 use Rattle.pr_top.specs.declared.reading.ReadError.{ReadError}
@@ -59,3 +61,13 @@ finished a b c f g n xs buf s r p size none q ended is = by r is
 pub if_went : {X E : Type 0} (r : Result X E) (P : Type 0) → OnOk r P → false ≡ is_err r → P
 if_went (Ok x) P p is = p
 if_went (Err e) P p is = absurd (cc)
+
+-- a piece was not taken
+pub not_taken : (a b : Option (List ℕ)) (f g : ℕ) (reader : Kept) (size : Size) (bytes : List ℕ) (e : ReadError) (r : Result Script ReadError) → Consumes a b bytes → IsTaken reader size bytes (Err e) → r ≡ Err e → IsReadSo a b f g r
+not_taken a b f g reader size bytes e r p why is = subst (λ (x : Result Script ReadError). IsReadSo a b f g x) (sym is) (by e why)
+  where
+    by : (x : ReadError) → IsTaken reader size bytes (Err x) → IsReadSo a b f g (Err x)
+    by errors.TooLarge large = large_read a b bytes p large
+    by errors.NoMemory why = tt
+    by errors.Failed why = absurd why
+    by (errors.Bad line why) none = absurd none

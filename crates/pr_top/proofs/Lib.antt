@@ -11,6 +11,14 @@ pub mod Runs
 pub mod SilentRuns
 pub mod KindLists
 pub mod AskedRuns
+pub mod FrontBytes
+pub mod LeftNode
+pub mod ServedRuns
+pub mod PulledRuns
+pub mod PulledTexts
+pub mod PullClosed
+pub mod Refused
+pub mod StreamLists
 pub mod Unread
 pub mod Generated
 pub mod Judgements

@@ -24,6 +24,8 @@ use Rattle.pr_top.specs.declared.running.Expected.{Expected}
 use Rattle.pr_top.specs.declared.status.Status.TheVariants as status
 use Rattle.pr_top.specs.declared.stepping.Halt.{Halt}
 use Rattle.pr_top.specs.declared.stepping.Halt.TheVariants as halts
+use Rattle.pr_top.specs.declared.stepping.Run.{Run}
+use Rattle.pr_top.specs.Unended.{HasRunUnended}
 use Rattle.pr_top.proofs.Coming.{begun, ended}
 use Rattle.pr_top.proofs.Lines.{lines_split}
 use Rattle.pr_top.proofs.Promised.{headline}
@@ -102,36 +104,36 @@ last_turn failed s at told e unmet a b u past = (u.h, subst (λ (rest : List Num
 pub history_of : (s : Script) (h : List NodeEntry) (e : Engine) (halt : Halt) → HasStopped s h e halt → IsHistoryOfDecls s h
 history_of s h e halt k = record { valid = k.tells.told.valid; declared = k.tells.speaks }
 
-told_is : (s : Script) (h : List NodeEntry) → heads_text s.decls.list ++ entry_lines s.decls.list (reverse h) ≡ told_text s h
+pub told_is : (s : Script) (h : List NodeEntry) → heads_text s.decls.list ++ entry_lines s.decls.list (reverse h) ≡ told_text s h
 told_is s h = ap (λ (t : List ℕ). heads_text s.decls.list ++ t) (sym (lines_are s.decls.list h))
 
 -- nothing was run
 pub no_run : (s : Script) → HasBegun JobAfterJob s []
 no_run s = nothing_begins.lines JobAfterJob (streams_of s.decls.list) (λ t. false) (lines_of s.commands)
 
-pub nothing_told : (failed : Type 0) (s : Script) (a : Option (List ℕ)) → HasTold s failed a a (Err halts.NoMemory)
+pub nothing_told : (failed : Type 0) (s : Script) (a : Option (List ℕ)) → HasRunUnended s failed a a (Err halts.NoMemory)
 nothing_told failed s a = ([], record { valid = tt; declared = tt }, no_run s, (0, appends_none a))
 
 -- the head lines were cut off
-pub heads_cut : (X : Type 0) (failed : Type 0) (s : Script) (a b : Option (List ℕ)) (halt : Halt) → Writes {X = X} (heads_text s.decls.list) failed a b (Err halt) → HasTold s failed a b (Err halt)
+pub heads_cut : (X : Type 0) (failed : Type 0) (s : Script) (a b : Option (List ℕ)) (halt : Halt) → Writes {X = X} (heads_text s.decls.list) failed a b (Err halt) → HasRunUnended s failed a b (Err halt)
 heads_cut X failed s a b halts.NoMemory (n, p) =
     let m = front_of n (heads_text s.decls.list) [] in
     ([], record { valid = tt; declared = tt }, no_run s, (m.0, subst (λ (t : List ℕ). Appends a b t) m.1 p))
 heads_cut X failed s a b halts.WriteFault (bad, (n, p)) =
     let m = front_of n (heads_text s.decls.list) [] in
-    ([], record { valid = tt; declared = tt }, no_run s, (take n (heads_text s.decls.list), (bad, (m.0, inl m.1)), p))
+    ([], record { valid = tt; declared = tt }, no_run s, (bad, (m.0, subst (λ (t : List ℕ). Appends a b t) m.1 p)))
 heads_cut X failed s a b (halts.Worn at) p = absurd p
 
 -- the head lines alone were written
-pub heads_alone : (failed : Type 0) (s : Script) (a b : Option (List ℕ)) → Appends a b (heads_text s.decls.list) → HasTold s failed a b (Err halts.NoMemory)
+pub heads_alone : (failed : Type 0) (s : Script) (a b : Option (List ℕ)) → Appends a b (heads_text s.decls.list) → HasRunUnended s failed a b (Err halts.NoMemory)
 heads_alone failed s a b p =
     let text : List ℕ = heads_text s.decls.list in
     heads_cut ℕ failed s a b halts.NoMemory (length text, subst (λ (t : List ℕ). Appends a b t) (sym (take_all (length text) text (omega arith))) p)
 
 pub run_cut : (failed now : Type 0) (s : Script) (e : Engine) (unmet : Option ℕ) (a b c : Option (List ℕ)) (halt : Halt) → (failed → now)
-    → Appends a b (heads_text s.decls.list) → HasRunAll s failed b c e unmet (Err halt) → HasTold s now a c (Err halt)
+    → Appends a b (heads_text s.decls.list) → HasRunAll s failed b c e unmet (Err halt) → HasRunUnended s now a c (Err halt)
 run_cut failed now s e unmet a b c (halts.Worn at) f p (h, stopped, q) =
-    (h, history_of s h e (halts.Worn at) stopped, stopped.begun, stopped.cause, subst (λ (t : List ℕ). Appends a c t) (told_is s h) (appends_then a b c (heads_text s.decls.list) (entry_lines s.decls.list (reverse h)) p q))
+    (h, history_of s h e (halts.Worn at) stopped, stopped.begun, (stopped.cause, subst (λ (t : List ℕ). Appends a c t) (told_is s h) (appends_then a b c (heads_text s.decls.list) (entry_lines s.decls.list (reverse h)) p q)))
 run_cut failed now s e unmet a b c halts.NoMemory f p (h, stopped, cut) = (
   h,
   history_of s h e halts.NoMemory stopped,
@@ -142,15 +144,24 @@ run_cut failed now s e unmet a b c halts.NoMemory f p (h, stopped, cut) = (
 run_cut failed now s e unmet a b c halts.WriteFault f p (bad, (h, stopped, cut)) =
     let all = subst (λ (t : List ℕ). Writes {X = ℕ} t now a c (Err halts.WriteFault)) (told_is s h)
     (writes_then ℕ now a b c (heads_text s.decls.list) (entry_lines s.decls.list (reverse h)) (Err halts.WriteFault) p (f bad, cut)) in
-    (h, history_of s h e halts.NoMemory stopped, stopped.begun, (take all.1.0 (told_text s h), (all.0, (all.1.0, inl refl)), all.1.1))
+    (h, history_of s h e halts.NoMemory stopped, stopped.begun, all)
 
--- all commands were run, and the `ok` line follows
-module _ (s : Script) (h : List NodeEntry) (e : Engine) (unmet : Option ℕ) (k : HasCome s [] h e unmet) (a b c : Option (List ℕ)) (p : Appends a b (heads_text s.decls.list)) (q : Appends b c (entry_lines s.decls.list (reverse h))) where
+-- all commands were run
+pub run_whole : (failed : Type 0) (s : Script) (h : List NodeEntry) (run : Run) (a b c : Option (List ℕ)) → HasCome s [] h run.engine run.unmet
+    → Appends a b (heads_text s.decls.list) → Appends b c (entry_lines s.decls.list (reverse h)) → HasRunUnended s failed a c (Ok run)
+run_whole failed s h run a b c k p q =
+    (h, k, subst (λ (t : List ℕ). Appends a c t) (told_is s h) (appends_then a b c (heads_text s.decls.list) (entry_lines s.decls.list (reverse h)) p q))
+
+-- a run that stopped has no `ok` line
+pub unended_stops : (failed : Type 0) (s : Script) (a b : Option (List ℕ)) (halt : Halt) → HasRunUnended s failed a b (Err halt) → HasTold s failed a b (Err halt)
+unended_stops failed s a b (halts.Worn at) (h, is, part, (cause, told)) = (h, is, part, cause, told)
+unended_stops failed s a b halts.NoMemory stopped = stopped
+unended_stops failed s a b halts.WriteFault (h, is, part, (bad, (n, told))) = (h, is, part, (take n (told_text s h), (bad, (n, inl refl)), told))
+
+-- the `ok` line follows
+module _ (s : Script) (h : List NodeEntry) (e : Engine) (unmet : Option ℕ) (k : HasCome s [] h e unmet) (a c : Option (List ℕ)) (told : Appends a c (told_text s h)) where
   stopped : HasStopped s h e halts.NoMemory
   stopped = stop_here s [] h e unmet k
-
-  told : Appends a c (told_text s h)
-  told = subst (λ (t : List ℕ). Appends a c t) (told_is s h) (appends_then a b c (heads_text s.decls.list) (entry_lines s.decls.list (reverse h)) p q)
 
   whole : told_text s h ++ ok_line (length s.decls.list + length h) ≡ transcript_text s.decls.list h
   whole = append_assoc (heads_text s.decls.list) (lines_text s.decls.list h) (ok_line (length s.decls.list + length h))

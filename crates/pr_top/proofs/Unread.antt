@@ -23,6 +23,8 @@ module _ (a b : Ports) (unread : (b.left ≡ a.left) × (b.read_faults ≡ a.rea
   }
   by_job (Some (jobs.Gen seed size)) = (λ few. record { unread = unread; run = inr (refl, line) }, λ many. line)
   by_job (Some (jobs.Ask node)) = inr (refl, line)
+  by_job (Some (jobs.Serve node)) = inr (refl, line)
+  by_job (Some (jobs.Pull node)) = inr (refl, line)
   by_job (Some other) = line
 
   pub line_answers : (job : Option Job) (result : Status) → result ≡ status.NoMemory → Answers job a b result

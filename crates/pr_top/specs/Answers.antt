@@ -13,8 +13,12 @@ use Rattle.pr_text.specs.Endings.{bad_cause, error_line}
 use Rattle.pr_words.specs.declared.job.Job.{Job}
 use Rattle.pr_words.specs.declared.job.Job.TheVariants as jobs
 use Rattle.pr_top.specs.Reading.{HasBadLine, HasScript}
+use Rattle.pr_serve.specs.Sinks.{sink}
 use Rattle.pr_top.specs.Asked.{HasAsked}
 use Rattle.pr_top.specs.Checked.{HasJudged, IsTooLong}
+use Rattle.pr_top.specs.Fronts.{HasBadFront, HasFront, HasLargeFront}
+use Rattle.pr_top.specs.Pulled.{EndsPull}
+use Rattle.pr_top.specs.Served.{HasServed}
 use Rattle.pr_top.specs.Generated.{HasGenerated}
 use Rattle.pr_top.specs.Runs.{HasRun, WritesLine}
 use Rattle.pr_top.specs.Sizes.{IsTooLarge}
@@ -118,6 +122,49 @@ AnswersCheck a b status.ReadFault = HasRisen a.read_faults b.read_faults × Writ
 AnswersCheck a b status.TooLarge = IfSome a.left IsTooLong × Writes a b (error_line (codes "too large"))
 AnswersCheck a b status.NoMemory = Writes a b (error_line (codes "no memory"))
 AnswersCheck a b _ = ⊥
+-- why no script was run, where a byte 0 ends it
+abbrev pub IsRefused : List ℕ → Ports → Ports → Status → Type 0
+IsRefused label a b status.ReadFault = HasRisen a.read_faults b.read_faults
+IsRefused label a b status.TooLarge = HasLargeFront a.left
+IsRefused label a b (status.BadScript line why) = HasBadFront a.left line why
+IsRefused label a b status.NoNode =
+    (s : Script) × (behind : Option (List ℕ)) × HasFront a.left behind s × (number_among kinds.Node s.decls.list label ≡ None)
+IsRefused label a b status.NoMemory = Unit {0}
+IsRefused label a b _ = ⊥
+
+-- the line that tells it
+abbrev pub refusal_line : Status → List ℕ
+refusal_line (status.BadScript line why) = error_line (bad_cause line why)
+refusal_line status.ReadFault = error_line (codes "read")
+refusal_line status.TooLarge = error_line (codes "too large")
+refusal_line status.NoNode = error_line (codes "no node")
+refusal_line _ = error_line (codes "no memory")
+
+-- the node with this label of the script serves the asks behind it
+pub record ServesBehind (label : List ℕ) (a b : Ports) (result : Status) : Type 0 where
+  pub script : Script
+  pub node : ℕ
+  pub behind : Option (List ℕ)
+  pub front : HasFront a.left behind script
+  pub node_is : number_among kinds.Node script.decls.list label ≡ Some node
+  pub serves : HasServed result script node behind a.read_faults (sink a.text a.write_faults) b.left b.read_faults (sink b.text b.write_faults)
+
+-- it pulls the messages behind it
+pub record PullsBehind (label : List ℕ) (a b : Ports) (result : Status) : Type 0 where
+  pub script : Script
+  pub node : ℕ
+  pub behind : Option (List ℕ)
+  pub front : HasFront a.left behind script
+  pub node_is : number_among kinds.Node script.decls.list label ≡ Some node
+  pub pulls : EndsPull result script node behind a.read_faults b.left b.read_faults (HasRisen a.write_faults b.write_faults) a.text b.text
+
+-- the answer where a node serves: no line tells a fault
+abbrev pub AnswersServe : List ℕ → Ports → Ports → Status → Type 0
+AnswersServe label a b result = (IsRefused label a b result × WritesNothing a b) ⊎ ServesBehind label a b result
+
+-- the answer where a node pulls
+abbrev pub AnswersPull : List ℕ → Ports → Ports → Status → Type 0
+AnswersPull label a b result = (IsRefused label a b result × Writes a b (refusal_line result)) ⊎ PullsBehind label a b result
 
 -- memory ran out before the words were read
 abbrev pub IsUnread : Ports → Ports → Status → Type 0
@@ -130,6 +177,8 @@ Answers (Some (jobs.Gen seed size)) a b result =
     (size ≤ 90000 → AnswersGenerated (workload seed size) a b result) × (90000 < size → IsUnaccepted a b result)
 Answers (Some jobs.Check) a b result = AnswersCheck a b result
 Answers (Some (jobs.Ask node)) a b result = AnswersAsk node a b result ⊎ IsUnread a b result
+Answers (Some (jobs.Serve node)) a b result = AnswersServe node a b result ⊎ IsUnread a b result
+Answers (Some (jobs.Pull node)) a b result = AnswersPull node a b result ⊎ IsUnread a b result
 Answers _ a b result = IsUnaccepted a b result
 
 -- the exit status of a process

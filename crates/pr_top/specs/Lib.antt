@@ -10,4 +10,8 @@ pub mod KeptProgress
 pub mod Generated
 pub mod Asked
 pub mod Checked
+pub mod Fronts
+pub mod Unended
+pub mod Served
+pub mod Pulled
 pub mod Answers

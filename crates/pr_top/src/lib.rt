@@ -4,15 +4,20 @@
 mod asker;
 mod asking;
 mod checking;
+mod fronts;
 mod generating;
 mod keeping;
+mod left;
 mod nodes;
+mod pulling;
 mod reading;
 mod running;
+mod serving;
 mod silent;
 mod size;
 mod status;
 mod stepping;
+mod streams;
 mod telling;
 #[cfg(test)]
 mod tests;

@@ -1,10 +1,10 @@
 // The nodes that a script declares.
 ghost use Rattle.pr_script.specs.Labels.{AreLabels, is_kind, label_of, number_among};
 ghost use Rattle.pr_script.specs.declared.kind.Kind.TheVariants as kinds;
-ghost use Rattle.pr_text.specs.Numbers.{Has};
+ghost use Rattle.pr_text.specs.Numbers.{Has, nodes_of};
 ghost use Rattle.pr_text.specs.Transcripts.{plan_of, sets_of};
 ghost use Rattle.std.specs.List.{filter, position};
-ghost use Rattle.std.specs.Prelude.{◌≡◌, IfSome};
+ghost use Rattle.std.specs.Prelude.{◌≡◌, IfSome, count_by};
 ghost use Rattle.std.specs.Str.{bytes_eq};
 
 use pr_script::{Decl, Kind, is_kind, label_of};
@@ -20,6 +20,23 @@ pub fn number_of(decls: &[Decl], label: &[u8]) -> Option<u32>
         Some(place) => Some(place as u32),
         None => None,
     }
+}
+
+/// How many nodes are declared, in time linear in the declarations.
+pub fn node_count(decls: &[Decl]) -> u32
+    requires { AreLabels decls.now }
+    ensures { result ≡ nodes_of decls.now }
+{
+    nodes_among(decls) as u32
+}
+
+fn nodes_among(decls: &[Decl]) -> usize
+    ensures { result ≡ count_by (is_kind kinds.Node) decls.now }
+{
+    decls
+        .iter()
+        .filter(|decl| is_kind(Kind::Node, decl))
+        .count()
 }
 
 fn place_of(decls: &[Decl], label: &[u8]) -> Option<usize>

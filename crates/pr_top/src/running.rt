@@ -9,6 +9,7 @@ ghost use Rattle.pr_text.specs.Endings.{ok_line};
 ghost use Rattle.pr_text.specs.Lines.{line_text};
 ghost use Rattle.pr_top.specs.Progress.{HasCome, HasRunAll, HasTold, IsExpected, Writes, entry_lines};
 ghost use Rattle.pr_top.specs.Runs.{HasRun};
+ghost use Rattle.pr_top.specs.Unended.{HasRunUnended};
 ghost use Rattle.pr_top.specs.declared.stepping.Halt.TheVariants as halts;
 ghost use Rattle.std.specs.Prelude.{◌≡◌, ◌≤◌, ◌<◌, ◌+◌, [], Err, IfErr, IfOk, List, drop, length, reverse, slice_index_or};
 
@@ -20,6 +21,7 @@ use pr_ports::Sink;
 use pr_script::{Bytes, Decls, Script};
 use pr_sim::Engine;
 use pr_stamps::{NoMemory, Seq};
+use pr_story::Event;
 use pr_text::{heads, line, ok, unmet};
 use std::alloc::Global;
 
@@ -56,6 +58,17 @@ fn transcript<K: Sink>(
     ensures told { HasTold script.now (HasRisen (K.faults out.old) (K.faults out.new)) (K.text out.old) (K.text out.new) result }
     ensures rises { K.faults out.old ≤ K.faults out.new }
 {
+    let run = unended(alloc, script, out)?;
+    end(alloc, script, &run, out)
+}
+
+/// Runs a script in one thread, and writes its transcript up to its `ok` line: the head lines first, and each command's
+/// lines before the next command runs.
+pub fn unended<K: Sink>(alloc: Global, script: &Script, out: &mut K) -> Result<Run, Halt>
+    requires { IsGood script.now }
+    ensures told { HasRunUnended script.now (HasRisen (K.faults out.old) (K.faults out.new)) (K.text out.old) (K.text out.new) result }
+    ensures rises { K.faults out.old ≤ K.faults out.new }
+{
     let mut text = Seq::new(alloc);
     heads(alloc, &script.decls, &mut text)?;
     write(out, text.as_slice())?;
@@ -65,7 +78,7 @@ fn transcript<K: Sink>(
         unmet: None,
     };
     commands(alloc, script, &mut run, out)?;
-    end(alloc, script, &run, out)
+    Ok(run)
 }
 
 // Runs all commands, and writes each one's lines before the next runs.
@@ -117,14 +130,28 @@ fn tell_entry<K: Sink>(
     ensures told { (h : List NodeEntry) (e : NodeEntry) → Tells (declared_of decls.now.list) h engine.now → at < length h → Writes (line_text decls.now.list (slice_index_or (reverse h) at e).node (slice_index_or (reverse h) at e).entry.event) (HasRisen (K.faults out.old) (K.faults out.new)) (K.text out.old) (K.text out.new) result }
     ensures rises { K.faults out.old ≤ K.faults out.new }
 {
-    let mut text = Seq::new(alloc);
-    line(
+    tell_line(
         alloc,
         decls,
         engine.node_of(at),
         &engine.entry(at).event,
-        &mut text,
-    )?;
+        out,
+    )
+}
+
+/// Writes the line of an event at the node.
+pub fn tell_line<K: Sink>(
+    alloc: Global,
+    decls: &Decls,
+    node: u32,
+    event: &Event,
+    out: &mut K,
+) -> Result<(), Halt>
+    ensures told { Writes (line_text decls.now.list node event.now) (HasRisen (K.faults out.old) (K.faults out.new)) (K.text out.old) (K.text out.new) result }
+    ensures rises { K.faults out.old ≤ K.faults out.new }
+{
+    let mut text = Seq::new(alloc);
+    line(alloc, decls, node, event, &mut text)?;
     write(out, text.as_slice())
 }
 

@@ -1,5 +1,6 @@
 mod asked;
 mod checked;
+mod served;
 mod worked;
 mod worked_more;
 

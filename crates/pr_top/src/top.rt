@@ -1,21 +1,21 @@
 // The top call.
 ghost use Rattle.pr_ports.specs.Faults.{HasRisen};
-ghost use Rattle.pr_text.specs.Endings.{bad_cause, error_line};
+ghost use Rattle.pr_text.specs.Endings.{error_line};
 ghost use Rattle.pr_top.specs.Answers.{Answers, AnswersScript, ports_of};
 ghost use Rattle.pr_top.specs.Runs.{WritesLine};
 ghost use Rattle.pr_words.specs.Words.{job_of};
-ghost use Rattle.std.specs.Prelude.{◌≡◌, ◌⊎◌, Some, codes, map, string_bytes};
+ghost use Rattle.std.specs.Prelude.{◌≡◌, Some, codes, map, string_bytes};
 
 use crate::Status;
 use crate::asking::ask;
 use crate::checking::check;
 use crate::generating::generate;
+use crate::pulling::pull;
 use crate::reading::{ReadError, read_script};
 use crate::running::run;
-use crate::telling::tell;
+use crate::serving::serve;
+use crate::telling::{no_memory, tell, tell_bad};
 use pr_ports::{Sink, Source};
-use pr_stamps::Seq;
-use pr_text::bad;
 use pr_wires::Wires;
 use pr_words::{Job, WordsFault};
 use std::alloc::Global;
@@ -29,8 +29,10 @@ const MOST: u64 = 90_000;
 /// as it comes. Reading takes time linear in the script's bytes and keeps its commands; the run takes the time of the
 /// nodes' calls and keeps their journals. `gen` reads nothing, runs the generated script of its seed and size, and writes
 /// the summary of the run. `check` reads a text of at most 67,108,864 bytes as it comes, and writes whether it is a
-/// transcript, once it was read to its end; it takes the time that the events took, and keeps the nodes' journals. `ask` reads and runs a script, writes the asks of a node for the streams that end at it
-/// (docs/WIRE.md), and no line.
+/// transcript, once it was read to its end; it takes the time that the events took, and keeps the nodes' journals. `ask`
+/// reads and runs a script, writes the asks of a node for the streams that end at it (docs/WIRE.md), and no line. `serve`
+/// and `pull` read a script up to the first byte 0, and run it; then `serve` answers the asks behind it at a node, and
+/// `pull` writes the transcript, gives the node the messages behind the script, and writes the lines of what it took in.
 pub fn practi<S: Source, K: Sink, W: Wires>(
     alloc: Global,
     words: &[String],
@@ -57,6 +59,8 @@ pub fn alone<S: Source, K: Sink>(alloc: Global, job: &Job, script: &mut S, out: 
         Job::Gen { seed, size } if *size <= MOST => generate(alloc, *seed, *size, out),
         Job::Check => check(alloc, script, out),
         Job::Ask { node } => ask(alloc, node.as_slice(), script, out),
+        Job::Serve { node } => serve(alloc, node.as_slice(), script, out),
+        Job::Pull { node } => pull(alloc, node.as_slice(), script, out),
         _ => usage(out),
     }
 }
@@ -80,24 +84,4 @@ fn sim<S: Source, K: Sink>(alloc: Global, script: &mut S, out: &mut K) -> Status
         Err(ReadError::Bad { line, why }) => tell_bad(alloc, out, line, why),
         Err(ReadError::NoMemory) => no_memory(out),
     }
-}
-
-// Writes the line that tells a script's first bad line.
-fn tell_bad<K: Sink>(alloc: Global, out: &mut K, line: u64, why: u8) -> Status
-    ensures status { (result ≡ Status.BadScript line why) ⊎ (result ≡ Status.NoMemory) }
-    ensures line { result ≡ Status.BadScript line why → WritesLine (HasRisen (K.faults out.old) (K.faults out.new)) (error_line (bad_cause line why)) (K.text out.old) (K.text out.new) }
-    ensures no_memory { result ≡ Status.NoMemory → WritesLine (HasRisen (K.faults out.old) (K.faults out.new)) (error_line (codes "no memory")) (K.text out.old) (K.text out.new) }
-{
-    let mut text = Seq::new(alloc);
-    match bad(line, why, &mut text) {
-        Ok(()) => tell(out, Status::BadScript { line, why }, text.as_slice()),
-        Err(_) => no_memory(out),
-    }
-}
-
-fn no_memory<K: Sink>(out: &mut K) -> Status
-    ensures status { result ≡ Status.NoMemory }
-    ensures line { WritesLine (HasRisen (K.faults out.old) (K.faults out.new)) (error_line (codes "no memory")) (K.text out.old) (K.text out.new) }
-{
-    tell(out, Status::NoMemory, b"error no memory\n")
 }

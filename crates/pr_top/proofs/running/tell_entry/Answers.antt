@@ -1,4 +1,4 @@
-use Rattle.std.proofs.Common.{◌++◌, ◌∙◌, ap, subst, get_or, reverse, ℕ, List}
+use Rattle.std.proofs.Common.{◌∙◌, ap, subst, get_or, reverse, ℕ, List}
 use Rattle.pr_ports.specs.Faults.{HasRisen}
 use Rattle.pr_sim.specs.Making.{declared_of}
 use Rattle.pr_story.specs.declared.entry.Entry.{Entry}
@@ -10,7 +10,6 @@ pub returns-clause-told : goal.returns-clause-told
 returns-clause-told g c = λ h e tells lt.
     let ds = c.args.decls.now.list in
     let x = get_or (reverse h) c.args.at e in
-    let text = c.as_slice.ensures ∙ c.in_ok-line.ensures.ok ∙ ap (λ (t : List ℕ). t ++ line_text ds c.node_of.result c.entry.result.now.event) c.new-text.ensures
-    ∙ ap (λ (n : ℕ). line_text ds n c.entry.result.now.event) (c.node_of.ensures (declared_of ds) h e tells lt)
+    let line = ap (λ (n : ℕ). line_text ds n c.entry.result.now.event) (c.node_of.ensures (declared_of ds) h e tells lt)
     ∙ ap (λ (y : Entry). line_text ds x.node y.event) (c.entry.ensures (declared_of ds) h e tells lt) in
-    subst (λ (t : List ℕ). Writes t (HasRisen (g.K.Sink.faults c.args.out.now) (g.K.Sink.faults c.write.new.out)) (g.K.Sink.text c.args.out.now) (g.K.Sink.text c.write.new.out) c.write.result) text c.write.ensures.told
+    subst (λ (t : List ℕ). Writes t (HasRisen (g.K.Sink.faults c.args.out.now) (g.K.Sink.faults c.tell_line.new.out)) (g.K.Sink.text c.args.out.now) (g.K.Sink.text c.tell_line.new.out) c.tell_line.result) line c.tell_line.ensures.told
