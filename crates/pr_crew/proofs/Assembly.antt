@@ -1,6 +1,6 @@
 -- The entries of a phase's jobs, put together.
-use Rattle.std.proofs.Common.{◌≡◌, ℕ, zero, suc, ◌+◌, ◌<◌, ◌≤◌, List, [], ◌∷◌, ◌++◌, inl, inr, refl, sym, ◌∙◌, ap, subst, cond, map, nat_eq, length, get_or, reverse, arith}
-use Rattle.std.specs.Prelude.{All, AllPairs, Bool, Contains, true, false, filter, max, slice_get}
+use Rattle.std.proofs.Common.{◌≡◌, ℕ, zero, suc, ◌+◌, ◌<◌, ◌≤◌, List, [], ◌∷◌, ◌++◌, inl, inr, refl, sym, ◌∙◌, ap, subst, map, length, reverse, arith}
+use Rattle.std.specs.Prelude.{All, AllPairs, Bool, Contains, filter, max, slice_get}
 use Rattle.std.specs.List.{cons_option, range_with_len}
 use Rattle.std.specs.List.Sorted.{IsStrictlyIncreasing}
 use Rattle.std.proofs.lemmas.List.{append-nil, append_assoc, get_or-map, get_or_past, length-map, reverse-append}
@@ -16,8 +16,9 @@ use Rattle.std.proofs.lemmas.List.FromFn.{get_or-range_with_len, length-range_wi
 use Rattle.pr_story.specs.declared.entry.Entry.{Entry}
 use Rattle.pr_story.specs.History.{NodeEntry, Plan, journal}
 use Rattle.pr_story.specs.Lawful.{IsOwnLawful, Valid, heard_time, last_time}
-use Rattle.pr_story.specs.Merging.{IsNodeRun, New, just, of_node, plain}
+use Rattle.pr_story.specs.Merging.{IsNodeRun, New, just, plain}
 use Rattle.pr_story.specs.Scripts.{ByTime, IsPhase, JobBegins, JobGives}
+use Rattle.pr_story.specs.Phases.{IsPhaseAs}
 use Rattle.pr_story.proofs.InOrder.{pairs_none}
 use Rattle.pr_story.proofs.Merging.{journal_all}
 use Rattle.pr_story.proofs.Sorted.{contains_none, first_or_later, is_first, is_later, pairs_first, pairs_later}
@@ -193,6 +194,22 @@ module _ (plan : Plan) (h : List NodeEntry) (nodes : ℕ → List Entry) (jobs :
         ]
       ]
 
+  -- ---- the parts
+
+  parts_are : (ns : List ℕ) → map (λ n. map (λ (e : Entry). e.time) (nodes n)) ns ≡ map times_of (map (λ n. list n) ns)
+  parts_are [] = refl
+  parts_are (n ∷ ns) =
+      ap (λ (ts : List ℕ). ts ∷ map (λ m. map (λ (e : Entry). e.time) (nodes m)) ns) (ap (λ (es : List Entry). map (λ (e : Entry). e.time) es) (sym (just_list n)) ∙ sym (times_of_just (list n)))
+      ∙ ap (λ (ls : List (List ℕ)). times_of (list n) ∷ ls) (parts_are ns)
+
+  all_rise : (ns : List ℕ) → All IsStrictlyIncreasing (map times_of (map (λ n. list n) ns))
+  all_rise [] = All-nil IsStrictlyIncreasing
+  all_rise (n ∷ ns) = All-cons IsStrictlyIncreasing (times_of (list n)) (map times_of (map (λ m. list m) ns)) (list_rises n) (all_rise ns)
+
+  -- the times of each node's entries rise
+  pub parts_rise : (count : ℕ) → All IsStrictlyIncreasing (parts_of nodes count)
+  parts_rise count = subst (λ (ps : List (List ℕ)). All IsStrictlyIncreasing ps) (sym (parts_are (range_with_len 0 count))) (all_rise (range_with_len 0 count))
+
   -- ---- all nodes
 
   module _ (count : ℕ) (places : List (ℕ × ℕ)) (none : (n : ℕ) → count ≤ n → nodes n ≡ []) (merged : IsMerged (parts_of nodes count) places) where
@@ -212,16 +229,6 @@ module _ (plan : Plan) (h : List NodeEntry) (nodes : ℕ → List Entry) (jobs :
           let m : length lists ≡ length (range_with_len 0 count) = length-map (range_with_len 0 count) (λ (m : ℕ). list m) in
           get_or_past lists n [] (omega arith) ∙ sym (empty_of (list n) (just_list n ∙ none n past)))
     ]
-
-    parts_are : (ns : List ℕ) → map (λ n. map (λ (e : Entry). e.time) (nodes n)) ns ≡ map times_of (map (λ n. list n) ns)
-    parts_are [] = refl
-    parts_are (n ∷ ns) =
-        ap (λ (ts : List ℕ). ts ∷ map (λ m. map (λ (e : Entry). e.time) (nodes m)) ns) (ap (λ (es : List Entry). map (λ (e : Entry). e.time) es) (sym (just_list n)) ∙ sym (times_of_just (list n)))
-        ∙ ap (λ (ls : List (List ℕ)). times_of (list n) ∷ ls) (parts_are ns)
-
-    all_rise : (ns : List ℕ) → All IsStrictlyIncreasing (map times_of (map (λ n. list n) ns))
-    all_rise [] = All-nil IsStrictlyIncreasing
-    all_rise (n ∷ ns) = All-cons IsStrictlyIncreasing (times_of (list n)) (map times_of (map (λ m. list m) ns)) (list_rises n) (all_rise ns)
 
     abbrev entries : List New
     entries = entries_at lists places
@@ -314,12 +321,14 @@ module _ (plan : Plan) (h : List NodeEntry) (nodes : ℕ → List Entry) (jobs :
           }));
       whole = λ jobs_of gives. subst (λ (ms : List NodeEntry). IsPhase JobGives ByTime jobs_of ms) (plain_at places) (phase.whole jobs_of gives);
       begun = λ jobs_of begins. subst (λ (ms : List NodeEntry). IsPhase JobBegins ByTime jobs_of ms) (plain_at places) (phase.begun jobs_of begins);
+      marked = λ wholes jobs_of gives. subst (λ (ms : List NodeEntry). IsPhaseAs wholes ByTime jobs_of ms) (plain_at places) (phase.marked wholes jobs_of gives);
       journals = journal_is;
+      merged = (reverse entries, all_made, keeps.of_jobs);
       places_are =
           places_after (made_at nodes places) h
           ∙ ap (λ (ps : List (ℕ × ℕ)). places_of h ++ ps)
           (placed_in_turn nodes (λ n. length (journal h n)) (λ n. 0) places h (λ n. nothing (length (journal h n)))
-          (turns nodes count places none merged (subst (λ (ps : List (List ℕ)). All IsStrictlyIncreasing ps) (sym (parts_are (range_with_len 0 count))) (all_rise (range_with_len 0 count)))));
+          (turns nodes count places none merged (parts_rise count)));
     }
       where
         nothing : (n : ℕ) → n ≡ n + 0

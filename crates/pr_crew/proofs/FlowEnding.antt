@@ -1,17 +1,15 @@
 -- A flow's job, from its first call to its end.
 use Rattle.std.proofs.Common.{◌≡◌, ◌≢◌, ◌⊎◌, ℕ, ◌-◌, List, [], ◌∷◌, ◌++◌, Result, Ok, Err, inl, inr, refl, sym, ap, ◌∙◌, subst, map, append_assoc, arith}
-use Rattle.std.specs.Prelude.{true, IsTrue, Option, Some, None, reverse}
-use Rattle.std.proofs.lemmas.List.Elements.{All-nil}
+use Rattle.std.specs.Prelude.{IsTrue, Option, Some, None, reverse}
+use Rattle.std.proofs.lemmas.List.Elements.{All-contains, All-nil}
 use Rattle.pr_flow.specs.declared.flow_end.FlowEnd.{FlowEnd}
 use Rattle.pr_flow.specs.declared.flow_end.FlowEnd.TheVariants as ends
-use Rattle.pr_flow.specs.Calls.{Accepting, Ending, HasEnded}
+use Rattle.pr_flow.specs.Calls.{Accepting, DownMakes, Ending, HasEnded, entry_of}
 use Rattle.pr_flow.specs.Flows.{Calls, Ends, EndsAtRest, EndsBehindGap, EndsOnTheWay, Flows, IsOfScript, IsStuck, Makes, Rest, Sides, is_at_destination, is_at_source}
 use Rattle.pr_flow.specs.Flows.{events_of as told_of}
 use Rattle.pr_inval.specs.declared.msg.Msg.{Msg}
 use Rattle.pr_inval.specs.declared.node_fault.NodeFault.{NodeFault}
 use Rattle.pr_inval.specs.Standing.{IsSameSession, Remembered, SessionMeaning, means}
-use Rattle.pr_merge.specs.Holding.{IsSession}
-use Rattle.pr_merge.specs.Phases.{times_of}
 use Rattle.pr_story.specs.declared.cause.Cause.{Cause}
 use Rattle.pr_story.specs.declared.cause.Cause.TheVariants.{Failed, Ended, Gap}
 use Rattle.pr_story.specs.declared.entry.Entry.{Entry}
@@ -24,10 +22,11 @@ use Rattle.pr_story.specs.Scripts.{FlowJob, IsFlow, IsFlowBegun, JobBegins, even
 use Rattle.pr_story.specs.Turns.{is_of_stream}
 use Rattle.pr_story.proofs.OfStreams.{after_gap}
 use Rattle.pr_crew.specs.Acting.{AtCell, acts, made_through}
-use Rattle.pr_crew.specs.Flowing.{BeginsAt, FlowBegins, FlowEnds}
+use Rattle.pr_crew.specs.Flowing.{FlowBegins, FlowEnds}
 use Rattle.pr_crew.specs.Jobs.{FlowFailed, FlowGives, FlowLied, MadeAt}
 use Rattle.pr_crew.specs.Making.{HasSeen, IsSameCaller, NodePass}
 use Rattle.pr_crew.proofs.FlowEvents.{IsUnderWay, accepted, gapped, idle_event, sent_event, stale_event, turned, under_way, went_down}
+use Rattle.pr_crew.proofs.FlowMore.{IsSpelled}
 use Rattle.pr_crew.proofs.FlowSteps.{Sofar, dst}
 use Rattle.pr_crew.proofs.FlowWalk.{Walked, no_memory, not_taken, not_turned, same_caller, stays, then_same}
 use Rattle.pr_crew.proofs.Sofar.{news, plain_append}
@@ -235,6 +234,7 @@ module _ (plan : Plan) (h : List NodeEntry) (s k : ℕ) where
       late = All-nil (λ t. _);
       of_stream = All-nil (λ x. IsTrue (is_of_stream x.made.entry.event s) × IsNoMissing x.made.entry.event);
       sides = All-nil (λ x. IsTrue (is_at_source x.made.entry.event) ⊎ IsTrue (is_at_destination x.made.entry.event));
+      spelled = All-nil (λ x. IsSpelled x.made.entry.event);
       stream = i.session_is.stream;
       stands = i.session_is.stands;
       attached = i.session_is.attached on;
@@ -277,6 +277,7 @@ module _ (plan : Plan) (h : List NodeEntry) (s k : ℕ) where
           lied = w.lied;
           failed = w.failed;
         };
+        spelled = λ x msg at is. All-contains (λ y. IsSpelled y.made.entry.event) w.made x c.spelled at msg is;
       }
 
   pub flow_done : (turns : ℕ) (a b x y : AtCell) (old new : Remembered) (g g1 t t1 : Option (List ℕ)) (end : Result FlowEnd NodeFault) → IsTrue old.attached
@@ -289,3 +290,33 @@ module _ (plan : Plan) (h : List NodeEntry) (s k : ℕ) where
       let calls = f.2.calls in
       flow_ends turns a b x y old new (told_of f.0) end i
       (walk calls.0 last f.1 end f.0 start i.source_is.pass i.destination_is.pass [] None turns (begun a b old i on) tt calls.1 calls.2) f.3
+
+  -- ---- a flow without a connection
+
+  -- that it went down was noted
+  pub unconnected_down : (turns : ℕ) (a b y : AtCell) (old new : Remembered) → IsTrue old.attached → FlowBegins plan h s a b old → DownMakes (made_through b) (made_through y) (means old) (means new) Failed (Ok tt)
+      → acts b (Ending Failed (means old) (means new)) None y → FlowEnds plan h s turns k a b a y new (Ok (ends.Down Failed))
+  unconnected_down turns a b y old new on i (time, caller, made, session) act =
+      let start : Sides AtCell AtCell = record { source = a; destination = b; session = means old } in
+      let last : Sides AtCell AtCell = record { source = a; destination = y; session = means new } in
+      let e : Entry = entry_of time caller (Down old.stream Failed) in
+      let is : e.event ≡ Down s Failed = ap (λ (t : ℕ). Down t Failed) i.session_is.stream in
+      let p = i.source_is.pass in
+      let q = i.destination_is.pass in
+      let d = went_down plan h s k start last p q [] e Failed is (begun a b old i on) tt (record { act = act; made = made; session = session }) refl in
+      let events : List Event = Down s Failed ∷ [] in
+      flow_ends turns a b a y old new events (Ok (ends.Down Failed)) i
+      (walked_more start last last p p q d.0 [] d.1 (Ok (ends.Down Failed)) (Down s Failed) [] (made_is (dst plan h s k) d.1 e (Down s Failed) d.2 is) (same_caller p) d.4 refl act.0
+      (stays plan h s k last last p d.0 (d.1 ∷ []) (Ok (ends.Down Failed)) d.3 refl tt tt))
+      (([], inr refl), λ whole. inr refl)
+
+  -- the destination refused to note it
+  pub unconnected_refused : (turns : ℕ) (a b y : AtCell) (old new : Remembered) (fault : NodeFault) → IsTrue old.attached → FlowBegins plan h s a b old
+      → DownMakes (made_through b) (made_through y) (means old) (means new) Failed (Err fault) → acts b (Ending Failed (means old) (means new)) (Some fault) y → FlowEnds plan h s turns k a b a y new (Err fault)
+  unconnected_refused turns a b y old new fault on i (made, session) act =
+      let start : Sides AtCell AtCell = record { source = a; destination = b; session = means old } in
+      let last : Sides AtCell AtCell = record { source = a; destination = y; session = means new } in
+      let p = i.source_is.pass in
+      let q = i.destination_is.pass in
+      flow_ends turns a b a y old new [] (Err fault) i (not_taken plan h s k start last p q [] (Ending Failed (means old) (means new)) fault (begun a b old i on) act session refl refl)
+      ((Down s Failed ∷ [], inr refl), λ whole. absurd whole)

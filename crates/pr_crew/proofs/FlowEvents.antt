@@ -1,6 +1,6 @@
 -- A flow's job: what each event of its stream owes where it is made.
 use Rattle.std.proofs.Common.{◌≡◌, ℕ, ◌<◌, List, [], ◌∷◌, ◌++◌, refl, sym, ap, ◌∙◌, subst, max, nat_eq, inl, arith}
-use Rattle.std.specs.Prelude.{Bool, true, false, IsTrue, Option, Some, None, reverse}
+use Rattle.std.specs.Prelude.{Bool, true, false, IsTrue, None, reverse}
 use Rattle.std.proofs.lemmas.Bool.Decides.{Decides-eqb}
 use Rattle.std.proofs.lemmas.List.Elements.{All-nil}
 use Rattle.pr_flow.specs.Calls.{Accepting, Call, Ending, HasEnded, HasStepped, HasTaken, HasTurned}

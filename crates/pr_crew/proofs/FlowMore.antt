@@ -9,7 +9,11 @@ use Rattle.pr_flow.specs.Calls.{Call}
 use Rattle.pr_flow.specs.Flows.{is_at_destination, is_at_source}
 use Rattle.pr_inval.specs.Standing.{SessionMeaning, Standing}
 use Rattle.pr_merge.specs.Phases.{times_of}
+use Rattle.pr_inval.specs.declared.msg.Msg.{Msg}
+use Rattle.pr_inval.specs.Messages.{IsMessage}
 use Rattle.pr_story.specs.declared.entry.Entry.{Entry}
+use Rattle.pr_story.specs.declared.event.Event.{Event}
+use Rattle.pr_story.specs.declared.event.Event.TheVariants.{Sent}
 use Rattle.pr_story.specs.Clients.{is_with_needs}
 use Rattle.pr_story.specs.History.{NodeEntry, Plan}
 use Rattle.pr_story.specs.Lawful.{HasCause, IsOwnLawful, IsPlaced}
@@ -63,6 +67,10 @@ destination_none (y ∷ ys) x off = ap (λ (zs : List New). cond (is_at_destinat
 
 -- ---- what both nodes' entries have in common
 
+-- what the event sends is of the grammar
+abbrev pub IsSpelled : Event → Type 0
+IsSpelled event = (msg : Msg) → event ≡ Sent msg → IsMessage msg
+
 module _ (plan : Plan) (h : List NodeEntry) (s k : ℕ) where
   pub record Common (a : SessionMeaning) (xs : List New) : Type 0 where
     pub run : IsRun plan h k xs
@@ -71,6 +79,7 @@ module _ (plan : Plan) (h : List NodeEntry) (s k : ℕ) where
     pub of_stream : All (λ x. IsTrue (is_of_stream x.made.entry.event s) × IsNoMissing x.made.entry.event) xs
     pub sides : All (λ x. IsTrue (is_at_source x.made.entry.event) ⊎ IsTrue (is_at_destination x.made.entry.event)) xs
     pub stream : a.stream ≡ s
+    pub spelled : All (λ x. IsSpelled x.made.entry.event) xs
     pub stands : StandsFor plan (plain (reverse xs) ++ h) s a.standing
     pub attached : IsAttached (plain (reverse xs) ++ h) s
 
@@ -86,6 +95,7 @@ module _ (plan : Plan) (h : List NodeEntry) (s k : ℕ) where
     pub timed : is_timed x.made.entry.event s ≡ true
     pub own : IsTrue (is_of_stream x.made.entry.event s) × IsNoMissing x.made.entry.event
     pub side : IsTrue (is_at_source x.made.entry.event) ⊎ IsTrue (is_at_destination x.made.entry.event)
+    pub spelled : IsSpelled x.made.entry.event
     pub later : a.standing.time < x.made.entry.time
 
   pub common_more : (a b : SessionMeaning) (xs : List New) (x : New) → Common a xs → IsNext a b xs x → Common b (xs ++ x ∷ [])
@@ -106,6 +116,7 @@ module _ (plan : Plan) (h : List NodeEntry) (s k : ℕ) where
             (All-push (λ t. t ≤ b.standing.time) (times_of xs) x.made.entry.time (All-weaker (λ t. t ≤ a.standing.time) (λ t. t ≤ b.standing.time) (λ t le. omega (arith, le, l, now)) (times_of xs) c.late) (omega (arith, now)));
         of_stream = All-push (λ y. IsTrue (is_of_stream y.made.entry.event s) × IsNoMissing y.made.entry.event) xs x c.of_stream n.own;
         sides = All-push (λ y. IsTrue (is_at_source y.made.entry.event) ⊎ IsTrue (is_at_destination y.made.entry.event)) xs x c.sides n.side;
+        spelled = All-push (λ y. IsSpelled y.made.entry.event) xs x c.spelled n.spelled;
         stream = n.on.stream ∙ c.stream;
         stands = subst (λ (g : List NodeEntry). StandsFor plan g s b.standing) (sym back)
             (stands_on plan x.made (plain (reverse xs) ++ h) s a b a.attached c.stream c.stands n.on n.timed (omega (arith, known, l)));

@@ -1,7 +1,7 @@
 -- A flow's job, event by event.
 use Rattle.std.proofs.Common.{◌≡◌, ℕ, ◌<◌, ◌+◌, List, [], ◌∷◌, ◌++◌, inl, inr, refl, sym, ap, ◌∙◌, subst, max, arith}
 use Rattle.std.specs.Prelude.{true, false, IsTrue, Some, None, reverse}
-use Rattle.pr_flow.specs.Calls.{Call, HasStepped, HasTurned, Turning}
+use Rattle.pr_flow.specs.Calls.{Call, HasStepped, HasTurned, IsSending, Turning}
 use Rattle.pr_flow.specs.Flows.{Sides, is_at_destination, is_at_source}
 use Rattle.pr_inval.specs.Standing.{Standing}
 use Rattle.pr_story.specs.declared.entry.Entry.{Entry}
@@ -15,7 +15,7 @@ use Rattle.pr_story.specs.Turns.{IsAttached, is_of_stream, is_timed, is_with_ses
 use Rattle.pr_crew.specs.Acting.{AtCell, acts, given, made_through, nothing}
 use Rattle.pr_crew.specs.Jobs.{MadeAt, at_destination, at_source}
 use Rattle.pr_crew.specs.Making.{IsCellOf, IsSameCaller, NodePass}
-use Rattle.pr_crew.proofs.FlowMore.{Common, common_more, destination_none, destination_one, next, side_more, source_none, source_one}
+use Rattle.pr_crew.proofs.FlowMore.{Common, IsSpelled, common_more, destination_none, destination_one, next, side_more, source_none, source_one}
 
 module _ (plan : Plan) (h : List NodeEntry) (s k : ℕ) where
   abbrev pub src : ℕ
@@ -40,6 +40,12 @@ module _ (plan : Plan) (h : List NodeEntry) (s k : ℕ) where
     pub own : IsTrue (is_of_stream event s) × IsNoMissing event
     pub needs : (c : ℕ) → is_with_needs event c ≡ false
     pub placed : (g : List NodeEntry) → IsPlaced plan g n event
+
+  sent_spelled : (stream : ℕ) (event : Event) → IsSending stream event → IsSpelled event
+  sent_spelled stream event sends msg is = let m = subst (λ (v : Event). IsSending stream v) is sends in m.message
+
+  unsent : (event : Event) → is_at_source event ≡ false → IsSpelled event
+  unsent event off msg is = let bad : true ≡ false = ap (λ (v : Event). is_at_source v) (sym is) ∙ off in absurd (cc)
 
   after_time : (a e last : ℕ) → e ≡ max last a + 1 → a < e
   after_time a e last is = omega (arith, is)
@@ -71,6 +77,7 @@ module _ (plan : Plan) (h : List NodeEntry) (s k : ℕ) where
             timed = here.timed;
             own = here.own;
             side = inl on;
+            spelled = sent_spelled x.session.stream e.event t.sends;
             later = after_time a e.time (last_time m.before) time;
           });
           has_source = m.has;
@@ -110,6 +117,7 @@ module _ (plan : Plan) (h : List NodeEntry) (s k : ℕ) where
             timed = here.timed;
             own = here.own;
             side = inr at;
+            spelled = unsent e.event off;
             later = after_time a e.time (last_time m.before) time;
           });
           has_source = ap (λ (y : AtCell). y.pass) still ∙ f.has_source;

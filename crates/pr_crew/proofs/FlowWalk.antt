@@ -94,6 +94,7 @@ module _ (plan : Plan) (h : List NodeEntry) (s k : ℕ) where
     late = subst (λ (st : Standing). All (λ t. t ≤ st.time) (times_of xs)) (sym i.standing) c.late;
     of_stream = c.of_stream;
     sides = c.sides;
+    spelled = c.spelled;
     stream = i.stream ∙ c.stream;
     stands = subst (λ (st : Standing). StandsFor plan (plain (reverse xs) ++ h) s st) (sym i.standing) c.stands;
     attached = c.attached;

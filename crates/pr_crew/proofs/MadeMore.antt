@@ -30,7 +30,7 @@ own_one k es e by =
     ∙ ap (λ (b : Bool). own k es ++ cond b (e ∷ []) []) ((Decides-eqb e.caller k).1 by)
 
 -- an entry of two lists stands in the one or in the other
-place : (a b before after : List Entry) (e : Entry) → a ++ b ≡ before ++ e ∷ after
+pub place : (a b before after : List Entry) (e : Entry) → a ++ b ≡ before ++ e ∷ after
     → ((rest : List Entry) × (a ≡ before ++ e ∷ rest)) ⊎ ((front : List Entry) × (b ≡ front ++ e ∷ after) × (before ≡ a ++ front))
 place [] b before after e is = inr (before, is, refl)
 place (x ∷ a) b [] after e is = inl (a, ap (λ (y : Entry). y ∷ a) (head-eq_of_cons-eq is))

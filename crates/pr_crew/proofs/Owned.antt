@@ -1,6 +1,6 @@
 -- What a job's entries are to the list of the node that made them.
-use Rattle.std.proofs.Common.{◌≡◌, ◌⊎◌, ℕ, zero, suc, ◌<◌, List, [], ◌∷◌, ◌++◌, All, Contains, cond, filter, inl, inr, refl, sym, ap, ◌∙◌, subst, eqb, get_or, length, arith}
-use Rattle.std.specs.Prelude.{Bool, IsTrue, Result}
+use Rattle.std.proofs.Common.{◌≡◌, ◌⊎◌, ℕ, zero, suc, ◌<◌, List, [], ◌∷◌, ◌++◌, Contains, cond, filter, inl, inr, refl, sym, ap, ◌∙◌, subst, eqb, get_or, length, arith}
+use Rattle.std.specs.Prelude.{IsTrue, Result}
 use Rattle.std.proofs.lemmas.Bool.Decides.{Decides-eqb}
 use Rattle.std.proofs.lemmas.List.Elements.{All-contains}
 use Rattle.pr_flow.specs.declared.flow_end.FlowEnd.{FlowEnd}

@@ -64,6 +64,14 @@ placed_in_turn nodes base come (p ∷ ps) g is (same, lt, turn) =
 
 -- ---- merged places come in turn
 
+-- a node's part has its entries' times
+pub part_of : (nodes : ℕ → List Entry) (count n : ℕ) → n < count → get_or (parts_of nodes count) n [] ≡ map (λ (e : Entry). e.time) (nodes n)
+part_of nodes count n lt =
+    let l : length (range_with_len 0 count) ≡ count = length-range_with_len 0 count in
+    let e : 0 + n ≡ n = omega arith in
+    get_or-map (λ (m : ℕ). map (λ (e : Entry). e.time) (nodes m)) (range_with_len 0 count) n 0 [] (omega arith)
+    ∙ ap (λ (m : ℕ). map (λ (e : Entry). e.time) (nodes m)) (get_or-range_with_len 0 count n 0 lt ∙ e)
+
 module _ (nodes : ℕ → List Entry) (count : ℕ) (places : List (ℕ × ℕ)) (none : (n : ℕ) → count ≤ n → nodes n ≡ []) (merged : IsMerged (parts_of nodes count) places)
     (rising : All IsStrictlyIncreasing (parts_of nodes count)) where
   abbrev parts : List (List ℕ)
@@ -75,11 +83,7 @@ module _ (nodes : ℕ → List Entry) (count : ℕ) (places : List (ℕ × ℕ))
   part_is : (n : ℕ) → length (part_at parts n) ≡ length (nodes n)
   unfolding times
   part_is n = elim (less_or n count) [
-    | inl lt ↦ (let l : length (range_with_len 0 count) ≡ count = length-range_with_len 0 count in
-        let e : 0 + n ≡ n = omega arith in
-        let at : get_or parts n [] ≡ times (nodes n) =
-        get_or-map (λ (m : ℕ). times (nodes m)) (range_with_len 0 count) n 0 [] (omega arith) ∙ ap (λ (m : ℕ). times (nodes m)) (get_or-range_with_len 0 count n 0 lt ∙ e) in
-        ap (λ (ts : List ℕ). length ts) at ∙ length-map (nodes n) (λ (e : Entry). e.time))
+    | inl lt ↦ ap (λ (ts : List ℕ). length ts) (part_of nodes count n lt) ∙ length-map (nodes n) (λ (e : Entry). e.time)
     | inr past ↦ (let l : length (range_with_len 0 count) ≡ count = length-range_with_len 0 count in
         let m : length parts ≡ length (range_with_len 0 count) = length-map (range_with_len 0 count) (λ (m : ℕ). times (nodes m)) in
         ap (λ (ts : List ℕ). length ts) (get_or_past parts n [] (omega arith)) ∙ sym (ap (λ (es : List Entry). length es) (none n past)))

@@ -3,11 +3,12 @@ use Rattle.std.specs.Prelude.{ℕ, List, [], ◌∷◌, ◌++◌, ◌≡◌, ◌
 use Rattle.std.specs.List.{range_with_len}
 use Rattle.std.specs.List.Sorted.{IsStrictlyIncreasing}
 use Rattle.pr_merge.specs.Merged.{IsMerged}
-use Rattle.pr_merge.specs.Phases.{EachGives, times_of}
+use Rattle.pr_merge.specs.Phases.{EachGives, EachGivesAs, times_of}
 use Rattle.pr_story.specs.declared.entry.Entry.{Entry}
 use Rattle.pr_story.specs.History.{NodeEntry, Plan, journal}
 use Rattle.pr_story.specs.Lawful.{Valid}
-use Rattle.pr_story.specs.Merging.{AreApart, IsJobRun, New, just}
+use Rattle.pr_story.specs.Merging.{AreApart, IsJobRun, New, just, of_job, plain}
+use Rattle.pr_story.specs.Phases.{IsPhaseAs}
 use Rattle.pr_story.specs.Places.{places_of}
 use Rattle.pr_story.specs.Scripts.{ByTime, IsPhase, Job, JobBegins, JobGives}
 use Rattle.pr_crew.specs.Jobs.{IsNew}
@@ -53,7 +54,10 @@ pub record IsAssembled (plan : Plan) (h : List NodeEntry) (nodes : ℕ → List 
   pub valid : (streams clients : ℕ → ℕ) → ((k : ℕ) → AreApart streams clients (jobs k)) → Valid plan (reverse (made_at nodes places) ++ h)
   pub whole : (phase : List Job) → EachGives JobGives phase 0 jobs → IsPhase JobGives ByTime phase (made_at nodes places)
   pub begun : (phase : List Job) → EachGives JobBegins phase 0 jobs → IsPhase JobBegins ByTime phase (made_at nodes places)
+  pub marked : (wholes : ℕ → Bool) (phase : List Job) → EachGivesAs wholes phase 0 jobs → IsPhaseAs wholes ByTime phase (made_at nodes places)
   pub journals : (n : ℕ) → journal (reverse (made_at nodes places) ++ h) n ≡ reverse (nodes n) ++ journal h n
+  -- they are the jobs' own, newest first
+  pub merged : (all : List New) × (plain all ≡ reverse (made_at nodes places)) × ((k : ℕ) → of_job all k ≡ reverse (jobs k))
   -- they stand in the journals behind what was there
   pub places_are : places_of (reverse (made_at nodes places) ++ h) ≡ places_of h ++ map (λ (p : ℕ × ℕ). (p.0, length (journal h p.0) + p.1)) places
 

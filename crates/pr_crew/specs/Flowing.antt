@@ -9,6 +9,7 @@ use Rattle.pr_story.specs.Merging.{New}
 use Rattle.pr_crew.specs.Acting.{AtCell}
 use Rattle.pr_crew.specs.Jobs.{FlowDone}
 use Rattle.pr_crew.specs.Making.{HasSeen, IsCellOf, IsSameCaller, NodePass}
+use Rattle.pr_crew.specs.Tasks.{AreSpelled}
 
 -- the side is at the cell of node n as a phase began after h, with a pass that has seen nothing made since
 pub record BeginsAt (plan : Plan) (h : List NodeEntry) (n : ℕ) (x : AtCell) : Type 0 where
@@ -35,3 +36,4 @@ pub record FlowEnds (plan : Plan) (h : List NodeEntry) (s turns k : ℕ) (a b x 
   pub destination_cell : y.cell ≡ b.cell
   pub made : List New
   pub done : FlowDone plan h s turns k source destination session end made
+  pub spelled : AreSpelled made

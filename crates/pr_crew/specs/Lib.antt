@@ -7,3 +7,10 @@ pub mod Flowing
 pub mod Making
 pub mod Stories
 pub mod Assembly
+pub mod Works
+pub mod Tasks
+pub mod Sites
+pub mod Phases
+pub mod Starting
+pub mod Rooms
+pub mod Leaving

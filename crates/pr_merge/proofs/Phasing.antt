@@ -10,21 +10,22 @@ use Rattle.pr_story.specs.Clients.{is_of_client}
 use Rattle.pr_story.specs.Turns.{is_of_stream}
 use Rattle.pr_story.specs.Scripts.{Job, JobBegins, JobEntry, JobGives, EachJob, made_of}
 use Rattle.pr_story.specs.Scripts as scripts
+use Rattle.pr_story.specs.Phases.{EachJobAs, JobGivesAs}
 use Rattle.pr_story.proofs.Merging.{merges}
 use Rattle.pr_story.proofs.Sorted.{contains_none, first_or_later, is_first, is_later}
-use Rattle.pr_merge.specs.Phases.{job_entries, list_of, KeepsOrders, EachGives, PhasesMerge}
+use Rattle.pr_merge.specs.Phases.{job_entries, list_of, KeepsOrders, EachGives, EachGivesAs, PhasesMerge}
 use Rattle.pr_merge.proofs.Orders.{time_keeps_orders}
 use Rattle.pr_merge.proofs.Times.{less_or}
 
 -- ---- apart, entry by entry
 
 module _ (streams clients : ℕ → ℕ) where
-  abbrev IsApart : New → Type 0
+  abbrev pub IsApart : New → Type 0
   IsApart x =
       IsNoMissing x.made.entry.event × ((s : ℕ) → IsTrue (is_of_stream x.made.entry.event s) → x.job ≡ streams s)
       × ((c : ℕ) → IsTrue (is_of_client x.made.entry.event c) → x.job ≡ clients c)
 
-  is_apart : (xs : List New) (x : New) → AreApart streams clients xs → Contains xs x → IsApart x
+  pub is_apart : (xs : List New) (x : New) → AreApart streams clients xs → Contains xs x → IsApart x
   is_apart [] x all has = absurd (contains_none x has)
   is_apart (y ∷ xs) x all has = elim (first_or_later y xs x has) [
     | inl is ↦ subst IsApart is all.0
@@ -35,7 +36,7 @@ module _ (streams clients : ℕ → ℕ) where
   are_apart [] each = tt
   are_apart (y ∷ xs) each = (each y (is_first y xs), are_apart xs (λ x has. each x (is_later y xs x has)))
 
-has_reversed : (xs : List New) (x : New) → Contains (reverse xs) x → Contains xs x
+pub has_reversed : (xs : List New) (x : New) → Contains (reverse xs) x → Contains xs x
 has_reversed [] x has = has
 has_reversed (y ∷ xs) x has = elim (Contains-append_cases (reverse xs) (y ∷ []) x (subst (λ (l : List New). Contains l x) (reverse-append (y ∷ []) xs) has)) [
   | inl before ↦ is_later y xs x (has_reversed xs x before)
@@ -71,6 +72,11 @@ each_job : (P : Job → List NodeEntry → Type 0) (phase : List Job) (k : ℕ) 
 each_job P [] k xs jobs same none = none_from xs k (λ m le. same m ∙ ap plain (none m le))
 each_job P (job ∷ phase) k xs jobs same gives = (subst (P job) (sym (same k)) gives.0, each_job P phase (k + 1) xs jobs same gives.1)
 
+each_job_as : (wholes : ℕ → Bool) (phase : List Job) (k : ℕ) (xs : List JobEntry) (jobs : ℕ → List New)
+    → ((m : ℕ) → scripts.of_job xs m ≡ plain (jobs m)) → EachGivesAs wholes phase k jobs → EachJobAs wholes phase k xs
+each_job_as wholes [] k xs jobs same none = none_from xs k (λ m le. same m ∙ ap plain (none m le))
+each_job_as wholes (job ∷ phase) k xs jobs same gives = (subst (JobGivesAs (wholes k) job) (sym (same k)) gives.0, each_job_as wholes phase (k + 1) xs jobs same gives.1)
+
 -- ---- the law
 
 pub phases_merge : PhasesMerge
@@ -83,4 +89,5 @@ phases_merge entries nodes jobs stand own =
           (are_apart streams clients (reverse entries) (λ x has. is_apart streams clients (jobs x.job) x (lawful.apart x.job) (((own x.job).each x).1 (has_reversed entries x has, refl))));
       whole = λ phase gives. (job_entries entries, made_of_jobs entries, each_job JobGives phase 0 (job_entries entries) jobs keeps.in_phase gives, stand.by_time);
       begun = λ phase gives. (job_entries entries, made_of_jobs entries, each_job JobBegins phase 0 (job_entries entries) jobs keeps.in_phase gives, stand.by_time);
+      marked = λ wholes phase gives. (job_entries entries, made_of_jobs entries, each_job_as wholes phase 0 (job_entries entries) jobs keeps.in_phase gives, stand.by_time);
     }

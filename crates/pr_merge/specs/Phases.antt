@@ -1,5 +1,5 @@
 -- The order of the entries that the jobs of a phase make beside each other. Lists stand here in order, the oldest first.
-use Rattle.std.specs.Prelude.{ℕ, List, [], ◌∷◌, ◌++◌, ◌≡◌, ◌≤◌, ◌+◌, ◌↔◌, AllPairs, Contains, map, reverse, slice_get, slice_index_or, All}
+use Rattle.std.specs.Prelude.{ℕ, List, [], ◌∷◌, ◌++◌, ◌≡◌, ◌≤◌, ◌+◌, ◌↔◌, AllPairs, Bool, Contains, map, reverse, slice_get, slice_index_or, All}
 use Rattle.std.specs.List.{filter_map}
 use Rattle.std.specs.List.Sorted.{IsStrictlyIncreasing}
 use Rattle.pr_story.specs.History.{NodeEntry, Plan}
@@ -7,6 +7,7 @@ use Rattle.pr_story.specs.Lawful.{Valid}
 use Rattle.pr_story.specs.Merging.{New, plain, of_node, of_job, IsNodeRun, IsJobRun, AreApart}
 use Rattle.pr_story.specs.Scripts.{Job, JobBegins, JobEntry, JobGives, IsPhase, Precedes, ByTime}
 use Rattle.pr_story.specs.Scripts as scripts
+use Rattle.pr_story.specs.Phases.{IsPhaseAs, JobGivesAs}
 use Rattle.pr_merge.specs.Merged.{IsMerged}
 
 abbrev pub times_of : List New → List ℕ
@@ -58,6 +59,11 @@ abbrev pub EachGives : (Job → List NodeEntry → Type 0) → List Job → ℕ 
 EachGives P [] k jobs = (m : ℕ) → k ≤ m → jobs m ≡ []
 EachGives P (job ∷ phase) k jobs = P job (plain (jobs k)) × EachGives P phase (k + 1) jobs
 
+-- those of the jobs that are whole give their lists, and the others a beginning of them
+abbrev pub EachGivesAs : (ℕ → Bool) → List Job → ℕ → (ℕ → List New) → Type 0
+EachGivesAs whole [] k jobs = (m : ℕ) → k ≤ m → jobs m ≡ []
+EachGivesAs whole (job ∷ phase) k jobs = JobGivesAs (whole k) job (plain (jobs k)) × EachGivesAs whole phase (k + 1) jobs
+
 -- each node's own list and each job's is lawful after h, and no client and no stream is used by two jobs
 pub record AreLawful (plan : Plan) (h : List NodeEntry) (nodes jobs : ℕ → List New) (streams clients : ℕ → ℕ) : Type 0 where
   pub valid : Valid plan h
@@ -70,6 +76,7 @@ pub record IsMergedPhase (entries : List New) (nodes jobs : ℕ → List New) : 
   pub valid : (plan : Plan) (h : List NodeEntry) (streams clients : ℕ → ℕ) → AreLawful plan h nodes jobs streams clients → Valid plan (plain (reverse entries) ++ h)
   pub whole : (phase : List Job) → EachGives JobGives phase 0 jobs → IsPhase JobGives ByTime phase (plain entries)
   pub begun : (phase : List Job) → EachGives JobBegins phase 0 jobs → IsPhase JobBegins ByTime phase (plain entries)
+  pub marked : (wholes : ℕ → Bool) (phase : List Job) → EachGivesAs wholes phase 0 jobs → IsPhaseAs wholes ByTime phase (plain entries)
 
 -- entries that stand by time, then node, are so where the times of each job's own list rise
 abbrev pub PhasesMerge : Type 0

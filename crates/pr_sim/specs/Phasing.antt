@@ -12,7 +12,6 @@ use Rattle.pr_script.specs.declared.decl.Decl.{Decl}
 use Rattle.pr_script.specs.declared.owner.Owner.{Owner}
 use Rattle.pr_script.specs.Good.{IsGoodPhase}
 use Rattle.pr_script.specs.declared.owner.Owner.TheVariants as owner
-use Rattle.pr_script.specs.Known.{turns_after}
 use Rattle.pr_script.specs.Steps.{Numbered, owner_of, owners_of, turns_in}
 use Rattle.pr_story.specs.Commands.{Command}
 use Rattle.pr_story.specs.History.{NodeEntry}
@@ -47,10 +46,6 @@ asked_of client c = cond (is_owned_by (owner.Client client) (owner_of c)) (singl
 -- what the lines of a client ask for
 abbrev pub asked_by : ℕ → List Numbered → List Command
 asked_by client inside = flat_map (λ (c : Numbered). single_of (line_of c.1)) (lines_by (owner.Client client) inside)
-
--- the turns of the line, if it is of the stream's flow
-abbrev pub turns_by : ℕ → Said → ℕ
-turns_by stream c = cond (is_owned_by (owner.Stream stream) (owner_of c)) (turns_after c 0) 0
 
 -- the history grew by an entry for each of these commands, or by a beginning
 abbrev pub GivesAll : List Command → Declared → (ℕ → Bool) → List NodeEntry → Engine → Result (Unit {0}) NodeFault → Type 0

@@ -1,23 +1,23 @@
 // The jobs of a phase, one after the other.
-ghost use Rattle.pr_script.specs.Steps.{owner_of, turns_in};
-ghost use Rattle.pr_script.specs.declared.owner.Owner.TheVariants as owner;
+ghost use Rattle.pr_script.specs.Steps.{turns_in};
 ghost use Rattle.pr_sim.specs.Commands.{ForEachRun, StepEnds};
 ghost use Rattle.pr_sim.specs.Crossing.{JobAdds, PhaseCarries};
 ghost use Rattle.pr_sim.specs.Flowing.{AreFewWires};
-ghost use Rattle.pr_sim.specs.Phasing.{CanDo, CanRunPhase, GivesAll, GoodPhaseCanRun, IsJobLine, JobEnds, asked_by, asked_of, turns_by};
+ghost use Rattle.pr_sim.specs.Phasing.{CanDo, CanRunPhase, GivesAll, GoodPhaseCanRun, IsJobLine, JobEnds, asked_by, asked_of};
 ghost use Rattle.pr_sim.specs.Running.{IsKept};
 ghost use Rattle.pr_sim.specs.Stepping.{CanRun, StepsByWires};
 ghost use Rattle.pr_story.specs.Scripts.{Phase};
-ghost use Rattle.pr_text.specs.Steps.{is_owned_by, job_of, jobs_of, lines_by};
+ghost use Rattle.pr_text.specs.Steps.{job_of, jobs_of};
 ghost use Rattle.std.specs.List.{AllByRecursion};
-ghost use Rattle.std.specs.Prelude.{◌≡◌, ◌≤◌, ◌+◌, ◌^◌};
+ghost use Rattle.std.specs.Prelude.{◌≤◌, ◌+◌, ◌^◌};
 
 use crate::engine::Engine;
 use crate::stepping::{stopped, went};
 use pr_flow::Stop;
 use pr_inval::NodeFault;
-use pr_script::{Command, Owner, is_same_owner, owner_of, owners};
+use pr_script::{Command, Owner, owners};
 use pr_stamps::NoMemory;
+use pr_text::{is_owned_by, turns_of};
 use pr_wires::Wires;
 
 impl Engine {
@@ -93,40 +93,6 @@ impl Engine {
         } else {
             Ok(())
         }
-    }
-}
-
-fn is_owned_by(mine: Owner, command: &Command) -> bool
-    ensures { result ≡ is_owned_by mine (owner_of command.now) }
-{
-    match owner_of(command) {
-        Some(owner) => is_same_owner(owner, mine),
-        None => false,
-    }
-}
-
-// The turns of a stream.
-fn turns_of(stream: u32, inside: &[(u64, Command)]) -> u64
-    requires few { turns_in inside.now ≤ 1000000 }
-    ensures { result ≡ turns_in (lines_by (owner.Stream stream) inside.now) }
-{
-    let mut turns = 0;
-    for line in inside {
-        turns += turns_by(stream, &line.1);
-    }
-    turns
-}
-
-// The turns of a line, if it is of the stream's flow.
-fn turns_by(stream: u32, command: &Command) -> u64
-    ensures { result ≡ turns_by stream command.now }
-{
-    match command {
-        Command::Flow {
-            stream: flowing,
-            turns,
-        } if *flowing == stream => *turns,
-        _ => 0,
     }
 }
 

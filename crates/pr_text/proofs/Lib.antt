@@ -12,3 +12,4 @@ pub mod Runs
 pub mod RunsOn
 pub mod Apart
 pub mod FirstLines
+pub mod JobLines

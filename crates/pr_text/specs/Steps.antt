@@ -1,8 +1,9 @@
 -- What a script's steps are in its history: each command's line, and each phase's jobs.
-use Rattle.std.specs.Prelude.{ℕ, List, [], ◌∷◌, map, filter, Bool, true, false, Option, Some, None}
+use Rattle.std.specs.Prelude.{ℕ, List, [], ◌∷◌, map, filter, cond, Bool, true, false, Option, Some, None}
 use Rattle.std.specs.List.{flat_map, position_or_len}
 use Rattle.pr_script.specs.declared.command.Command.{Command}
 use Rattle.pr_script.specs.declared.command.Command.TheVariants as commands
+use Rattle.pr_script.specs.Known.{turns_after}
 use Rattle.pr_script.specs.Steps as script
 use Rattle.pr_script.specs.declared.owner.Owner.{Owner}
 use Rattle.pr_script.specs.declared.owner.Owner.TheVariants as owner
@@ -46,6 +47,10 @@ is_owned_by mine (Some other) = is_same_owner other mine
 -- the lines of one job, in their order
 abbrev pub lines_by : Owner → List Numbered → List Numbered
 lines_by mine inside = filter (λ (c : Numbered). is_owned_by mine (owner_of c.1)) inside
+
+-- the turns of the line, if it is of the stream's flow
+abbrev pub turns_by : ℕ → Command → ℕ
+turns_by stream c = cond (is_owned_by (owner.Stream stream) (owner_of c)) (turns_after c 0) 0
 
 -- a client's job is what its lines ask for, and a stream's is the turns of its flow
 abbrev pub job_of : List Numbered → Owner → Job

@@ -122,6 +122,7 @@ AnswersCheck a b status.ReadFault = HasRisen a.read_faults b.read_faults × Writ
 AnswersCheck a b status.TooLarge = IfSome a.left IsTooLong × Writes a b (error_line (codes "too large"))
 AnswersCheck a b status.NoMemory = Writes a b (error_line (codes "no memory"))
 AnswersCheck a b _ = ⊥
+
 -- why no script was run, where a byte 0 ends it
 abbrev pub IsRefused : List ℕ → Ports → Ports → Status → Type 0
 IsRefused label a b status.ReadFault = HasRisen a.read_faults b.read_faults

@@ -16,7 +16,7 @@ returns-in-Client-clause-ends g c d attached h k =
 pub returns-in-Stream-clause-ends : goal.returns-in-Stream-clause-ends
 returns-in-Stream-clause-ends g c d attached h k =
     flow_job_ends d attached h c.flow.new.self c.in-Stream.stream c.turns_of-turns.result (job_of c.args.inside.now c.args.owner) c.flow.result c.stopped.result
-    (ap (λ (o : Owner). job_of c.args.inside.now o) c.in-Stream.is ∙ ap (λ (n : ℕ). FlowJob c.in-Stream.stream n) (sym c.turns_of-turns.ensures)) c.stopped.ensures (c.flow.ensures.flowed d attached h k)
+    (ap (λ (o : Owner). job_of c.args.inside.now o) c.in-Stream.is ∙ ap (λ (n : ℕ). FlowJob c.in-Stream.stream n) (sym c.turns_of-turns.ensures.turns)) c.stopped.ensures (c.flow.ensures.flowed d attached h k)
 
 pub returns-in-Client-clause-carried : goal.returns-in-Client-clause-carried
 returns-in-Client-clause-carried g c d attached h k =
@@ -26,4 +26,4 @@ returns-in-Client-clause-carried g c d attached h k =
 pub returns-in-Stream-clause-carried : goal.returns-in-Stream-clause-carried
 returns-in-Stream-clause-carried g c d attached h k =
     flow_adds d attached h c.flow.new.self (g.W.Wires.carried c.args.wires.now) (g.W.Wires.carried c.flow.new.wires) c.in-Stream.stream c.turns_of-turns.result (job_of c.args.inside.now c.args.owner) c.flow.result c.stopped.result
-    (ap (λ (o : Owner). job_of c.args.inside.now o) c.in-Stream.is ∙ ap (λ (n : ℕ). FlowJob c.in-Stream.stream n) (sym c.turns_of-turns.ensures)) c.stopped.ensures (c.flow.ensures.flowed d attached h k) (c.flow.ensures.carried d attached h k)
+    (ap (λ (o : Owner). job_of c.args.inside.now o) c.in-Stream.is ∙ ap (λ (n : ℕ). FlowJob c.in-Stream.stream n) (sym c.turns_of-turns.ensures.turns)) c.stopped.ensures (c.flow.ensures.flowed d attached h k) (c.flow.ensures.carried d attached h k)

@@ -1,0 +1,35 @@
+use Rattle.std.proofs.Common.{rules, ◌≤◌, subst, inr, arith}
+use Rattle.pr_crew.specs.Rooms.{total_at}
+use Rattle.pr_crew.proofs.Phased.{back_again, beside_both, fresh_close, fresh_here, nodes_here, out_of, refused}
+use Rattle.pr_crew.proofs.phasing.over_cells.Goals as goal
+
+pub open-requires-clause-here : goal.open-requires-clause-here
+open-requires-clause-here g c = let (d, h, p) = c.requires.planned in (d.plan, h, (λ n lt. nodes_here (λ d h. g.H.Held.records c.args.held.now d h) d h (g.H.Held.state c.args.held.now) p.represents n (let many = p.many in omega (arith, lt, many))))
+
+pub returns-in_err-sites-clause-leaves : goal.returns-in_err-sites-clause-leaves
+returns-in_err-sites-clause-leaves g c d h p =
+    refused (λ d h. g.H.Held.records c.open.new.held d h) d h c.args.inside.now (g.H.Held.state c.open.new.held) c.from_residual.result c.in_err-sites.field-0.0 (search rules)
+    (back_again (λ d h. g.H.Held.records c.args.held.now d h) (λ d h. g.H.Held.records c.open.new.held d h) d h (g.H.Held.state c.args.held.now) (g.H.Held.state c.open.new.held) (λ keeps. c.open.ensures.records d h keeps) p.represents c.open.ensures.beside (λ n lt. c.in_err-sites.ensures.back d.plan h (λ n lt. nodes_here (λ d h. g.H.Held.records c.args.held.now d h) d h (g.H.Held.state c.args.held.now) p.represents n (let many = p.many in omega (arith, lt, many))) n (let many = p.many in omega (arith, lt, many))))
+
+pub in_room-requires-clause-out : goal.in_room-requires-clause-out
+in_room-requires-clause-out g c κs within = let (d, h, p) = c.requires.planned in (d, h, (g.H.Held.state c.args.held.now), (out_of (λ d h. g.H.Held.records c.args.held.now d h) (λ d h. g.H.Held.records c.open.new.held d h) d h c.args.inside.now c.args.works.now c.args.count _ c.in_ok-sites.sites (g.H.Held.state c.args.held.now) (g.H.Held.state c.open.new.held) (λ keeps. c.open.ensures.records d h keeps) p c.in_ok-sites.ensures.many.0 c.open.ensures.beside (c.in_ok-sites.ensures.opened d.plan h (λ n lt. nodes_here (λ d h. g.H.Held.records c.args.held.now d h) d h (g.H.Held.state c.args.held.now) p.represents n (let many = p.many in omega (arith, lt, many)))) (search rules) c.in_ok-sites.ensures.out), (λ n any lt. c.requires.opening d h p n any (let many = c.in_ok-sites.ensures.many.0 in omega (arith, lt, many))))
+
+pub in_room-requires-clause-history : goal.in_room-requires-clause-history
+in_room-requires-clause-history g c κs within n le = c.open.ensures.room n (c.requires.history n (subst (λ k. n ≤ total_at c.args.works.now k) c.in_ok-sites.ensures.many.0 le))
+
+pub close-requires-clause-sites : goal.close-requires-clause-sites
+close-requires-clause-sites g c =
+    let (d, h, p) = c.requires.planned in
+    λ n lt. fresh_close d.plan h _ c.in_ok-sites.sites n ((c.in_ok-sites.ensures.opened d.plan h (λ n lt. nodes_here (λ d h. g.H.Held.records c.args.held.now d h) d h (g.H.Held.state c.args.held.now) p.represents n (let many = p.many in omega (arith, lt, many)))) n (let many = c.in_ok-sites.ensures.many.0 in omega (arith, lt, many)))
+
+pub returns-in-Ok-clause-leaves : goal.returns-in-Ok-clause-leaves
+returns-in-Ok-clause-leaves g c d h p = c.in_room.ensures.leaves d h (g.H.Held.state c.args.held.now) (out_of (λ d h. g.H.Held.records c.args.held.now d h) (λ d h. g.H.Held.records c.open.new.held d h) d h c.args.inside.now c.args.works.now c.args.count _ c.in_ok-sites.sites (g.H.Held.state c.args.held.now) (g.H.Held.state c.open.new.held) (λ keeps. c.open.ensures.records d h keeps) p c.in_ok-sites.ensures.many.0 c.open.ensures.beside (c.in_ok-sites.ensures.opened d.plan h (λ n lt. nodes_here (λ d h. g.H.Held.records c.args.held.now d h) d h (g.H.Held.state c.args.held.now) p.represents n (let many = p.many in omega (arith, lt, many)))) (search rules) c.in_ok-sites.ensures.out) (λ n any lt. c.requires.opening d h p n any (let many = c.in_ok-sites.ensures.many.0 in omega (arith, lt, many)))
+
+pub returns-in-Ok-clause-attached : goal.returns-in-Ok-clause-attached
+returns-in-Ok-clause-attached g c = let (d, h, p) = c.requires.planned in c.in_room.ensures.attached d h (g.H.Held.state c.args.held.now) (out_of (λ d h. g.H.Held.records c.args.held.now d h) (λ d h. g.H.Held.records c.open.new.held d h) d h c.args.inside.now c.args.works.now c.args.count _ c.in_ok-sites.sites (g.H.Held.state c.args.held.now) (g.H.Held.state c.open.new.held) (λ keeps. c.open.ensures.records d h keeps) p c.in_ok-sites.ensures.many.0 c.open.ensures.beside (c.in_ok-sites.ensures.opened d.plan h (λ n lt. nodes_here (λ d h. g.H.Held.records c.args.held.now d h) d h (g.H.Held.state c.args.held.now) p.represents n (let many = p.many in omega (arith, lt, many)))) (search rules) c.in_ok-sites.ensures.out) (λ n any lt. c.requires.opening d h p n any (let many = c.in_ok-sites.ensures.many.0 in omega (arith, lt, many)))
+
+pub returns-in-Err-clause-leaves : goal.returns-in-Err-clause-leaves
+returns-in-Err-clause-leaves g c d h p =
+    inr (back_again (λ d h. g.H.Held.records c.args.held.now d h) (λ d h. g.H.Held.records c.close.new.held d h) d h (g.H.Held.state c.args.held.now) (g.H.Held.state c.close.new.held) (λ keeps. c.close.ensures.records d h (c.open.ensures.records d h keeps)) p.represents
+    (beside_both (g.H.Held.state c.args.held.now) (g.H.Held.state c.open.new.held) (g.H.Held.state c.close.new.held) c.open.ensures.beside c.close.ensures.beside)
+    (λ n lt. fresh_here d.plan h _ c.in_ok-sites.sites (g.H.Held.state c.close.new.held) n ((c.in_ok-sites.ensures.opened d.plan h (λ n lt. nodes_here (λ d h. g.H.Held.records c.args.held.now d h) d h (g.H.Held.state c.args.held.now) p.represents n (let many = p.many in omega (arith, lt, many)))) n (let many = p.many in omega (arith, lt, many))) (λ e q site of_node. c.close.ensures.closed d.plan h n e q site of_node)))
