@@ -25,7 +25,7 @@ use Rattle.pr_check.specs.Heads.{AreAccepted, Declares, begins_head}
 use Rattle.pr_check.specs.Judging.{AreBehind, BeginsOk, BeginsTranscript, IsAsHead, IsBroken, IsTranscript, end_line, told_lines}
 use Rattle.pr_check.specs.Lines.{IsEventLine, Says}
 use Rattle.pr_check.specs.Said.{said_of, sending_of}
-use Rattle.pr_check.specs.Standing.{HasReplayed, IsUsable, IsVerdict, Judges, StandsAt}
+use Rattle.pr_check.specs.Standing.{HasEnded, HasReplayed, IsUsable, IsVerdict, Judges, StandsAt}
 use Rattle.pr_stamps.specs.declared.no_memory.NoMemory.{NoMemory}
 use Rattle.pr_check.specs.declared.judge.Judge.{Judge}
 use Rattle.pr_check.specs.declared.verdict.Verdict.{Verdict}
@@ -49,6 +49,7 @@ use Rattle.pr_check.specs.Heads.{IsHead}
 use Rattle.pr_check.specs.Judging.{IsAlone, MayNotCome}
 use Rattle.pr_check.specs.Lines.{HasSets, IsTellableAt}
 use Rattle.pr_check.proofs.Begun.{not_both}
+use Rattle.pr_check.proofs.Compared.{tells}
 use Rattle.pr_check.proofs.Begun.{heads_told, many_told, no_head, no_head_last, no_transcript, one_more_told}
 
 -- ---- head lines
@@ -121,22 +122,26 @@ event_stands ds line lines after h made e is k all same = (
 -- ---- the last line
 
 pub end_stands : (ds : List Decl) (line : List ℕ) (lines : List (List ℕ)) (attached : ℕ → Bool) (h : List NodeEntry) (e : Engine) → lines ≡ told_lines ds h → IsRunning (declared_of ds) attached h e
-    → line ≡ end_line (length ds + length h) → StandsAt ds stages.Ended (lines ++ line ∷ [])
+    → line ≡ end_line (length ds + length h) → StandsAt ds (stages.Ended e) (lines ++ line ∷ [])
 end_stands ds line lines attached h e is k same = (
   h,
   record { valid = k.stands.valid; declared = k.speaks },
+  tells (declared_of ds) attached h e k,
   ap (λ (ls : List (List ℕ)). ls ++ line ∷ []) is ∙ ap (λ (l : List ℕ). told_lines ds h ++ l ∷ []) (same ∙ ap end_line (sym (many_told ds h))),
 )
 
-pub end_begins : (ds : List Decl) (lines : List (List ℕ)) → AreAccepted ds → StandsAt ds stages.Ended lines → BeginsTranscript lines
-end_begins ds lines accepted stands = inr (inr (ds, accepted, stands))
+pub ended_whole : (ds : List Decl) (e : Engine) (lines : List (List ℕ)) → AreAccepted ds → HasEnded ds e lines → IsTranscript lines
+ended_whole ds e lines accepted (h, alone, told, is) = (ds, accepted, (h, alone, is))
+
+pub end_begins : (ds : List Decl) (e : Engine) (lines : List (List ℕ)) → AreAccepted ds → HasEnded ds e lines → BeginsTranscript lines
+end_begins ds e lines accepted ended = inr (inr (ended_whole ds e lines accepted ended))
 
 -- ---- the whole text
 
-pub not_whole : (ds : List Decl) (stage : Stage) (lines : List (List ℕ)) → StandsAt ds stage lines → (stage ≡ stages.Ended → ⊥) → IsTranscript lines → ⊥
+pub not_whole : (ds : List Decl) (stage : Stage) (lines : List (List ℕ)) → StandsAt ds stage lines → ((e : Engine) → stage ≡ stages.Ended e → ⊥) → IsTranscript lines → ⊥
 not_whole ds stages.Heads lines stands other whole = no_transcript ds [] lines (heads_told ds lines stands) whole
 not_whole ds (stages.Events e) lines stands other whole = no_transcript ds stands.0.1 lines stands.0.4 whole
-not_whole ds stages.Ended lines stands other whole = other refl
+not_whole ds (stages.Ended e) lines stands other whole = other e refl
 not_whole ds stages.Spent lines stands other whole = stands
 
 -- ---- a bad line
@@ -175,8 +180,8 @@ bad_end ds e lines line accepted r event ok other = record {
   breaks = inr (inr (inr (refl, inr (event, ok, other))));
 }
 
-pub past_end : (ds : List Decl) (lines : List (List ℕ)) (line : List ℕ) → AreAccepted ds → StandsAt ds stages.Ended lines → IsBroken lines line 4
-past_end ds lines line accepted (h, alone, is) = record {
+pub past_end : (ds : List Decl) (e : Engine) (lines : List (List ℕ)) (line : List ℕ) → AreAccepted ds → HasEnded ds e lines → IsBroken lines line 4
+past_end ds e lines line accepted (h, alone, told, is) = record {
   ds = ds;
   behind = (accepted, (h, alone, inr is));
   breaks = inr (inr (inr (refl, inl (ds, accepted, (h, alone, is)))));

@@ -11,16 +11,20 @@ use Rattle.pr_script.proofs.OneCut.{one_cut}
 use Rattle.pr_story.specs.History.{NodeEntry}
 use Rattle.pr_stamps.specs.declared.no_memory.NoMemory.{NoMemory}
 use Rattle.pr_check.specs.Judging.{BeginsTranscript, IsBroken, IsTranscript, end_line, told_lines, whole_lines}
-use Rattle.pr_check.specs.Standing.{IsLastVerdict, IsVerdict, Judges, StandsAt}
-use Rattle.pr_check.specs.Texts.{HasFirstBad, HasFound, HasRead, IsJudged, IsJudgedAt, IsTranscriptOf}
+use Rattle.pr_check.specs.Standing.{IsVerdict, Judges, StandsAt}
+use Rattle.pr_check.specs.Texts.{HasFirstBad, HasFound, HasRead, IsJudged, IsRead, IsReadAt, IsTranscriptOf}
 use Rattle.pr_check.specs.declared.finding.Finding.{Finding}
 use Rattle.pr_check.specs.declared.finding.Finding.TheVariants as findings
 use Rattle.pr_check.specs.declared.judge.Judge.{Judge}
-use Rattle.pr_check.specs.declared.judgement.Judgement.{Judgement}
 use Rattle.pr_check.specs.declared.judgement.Judgement.TheVariants as judgements
+use Rattle.pr_check.specs.declared.reading.Reading.{Reading}
+use Rattle.pr_check.specs.declared.reading.Reading.TheVariants as readings
 use Rattle.pr_check.specs.declared.stage.Stage.{Stage}
 use Rattle.pr_check.specs.declared.stage.Stage.TheVariants as stages
 use Rattle.pr_check.specs.declared.text_judge.TextJudge.{TextJudge}
+use Rattle.pr_check.specs.declared.transcript.Transcript.{Transcript}
+use Rattle.pr_sim.specs.Making.{declared_of}
+use Rattle.pr_sim.specs.Running.{Tells}
 use Rattle.pr_check.specs.declared.verdict.Verdict.{Verdict}
 use Rattle.pr_check.specs.declared.verdict.Verdict.TheVariants as verdicts
 use Rattle.pr_check.specs.Heads.{AreAccepted}
@@ -35,7 +39,7 @@ begins_at ds lines stages.Heads accepted stands = inl (ds, accepted, ([], append
 begins_at ds lines (stages.Events e) accepted stands =
     let r = stands.0 in
     inr (inl (ds, accepted, (r.1, record { valid = r.2.stands.valid; declared = r.2.speaks }, r.4)))
-begins_at ds lines stages.Ended accepted stands = inr (inr (ds, accepted, stands))
+begins_at ds lines (stages.Ended e) accepted (h, alone, told, is) = inr (inr (ds, accepted, (h, alone, is)))
 begins_at ds lines stages.Spent accepted stands = absurd stands
 
 begins : (judge : Judge) (lines : List (List ℕ)) → Judges judge lines → BeginsTranscript lines
@@ -164,21 +168,23 @@ transcript_cut text under lines cut n t =
     (sym cut.whole ∙ t.whole ∙ sym (whole_text t.ds t.h) ∙ sym (append-nil (flat_map ended (whole_lines t.ds t.h)))) in
     ((t.ds, t.accepted, (t.h, t.alone, same.0)), same.1)
 
-judged_so : (text under : List ℕ) (lines : List (List ℕ)) (w : Bool) → IsCut text lines under → (IsTrue w → under ≡ []) → (under ≡ [] → IsTrue w) → (j : Judgement) → IsJudgedAt lines w j → IsJudged text j
-judged_so text under lines w cut none some (judgements.Yes n) ((ds, accepted, (h, alone, is)), whole, many) = record {
-  ds = ds;
-  accepted = accepted;
-  h = h;
-  alone = alone;
-  whole =
-      cut.whole
-      ∙ ap (λ (r : List ℕ). flat_map ended lines ++ r) (none whole)
-      ∙ append-nil (flat_map ended lines)
-      ∙ ap (λ (ls : List (List ℕ)). flat_map ended ls) is
-      ∙ whole_text ds h;
-  count = let all : length lines ≡ (length ds + length h) + 1 = ap (λ (ls : List (List ℕ)). length ls) is ∙ many_whole ds h in omega (arith, all, many);
-}
-judged_so text under lines w cut none some (judgements.No number why) (missing, begun, place, end) = inr (record {
+read_so : (text under : List ℕ) (lines : List (List ℕ)) (w : Bool) → IsCut text lines under → (IsTrue w → under ≡ []) → (under ≡ [] → IsTrue w) → (r : Reading) → IsReadAt lines w r → IsRead text r
+read_so text under lines w cut none some (readings.Transcript t) (has, whole) =
+    let h = has.ended.0 in (
+      h,
+      record {
+        accepted = has.accepted;
+        alone = has.ended.1;
+        made = has.ended.2;
+        whole =
+            cut.whole
+            ∙ ap (λ (r : List ℕ). flat_map ended lines ++ r) (none whole)
+            ∙ append-nil (flat_map ended lines)
+            ∙ ap (λ (ls : List (List ℕ)). flat_map ended ls) has.ended.3
+            ∙ whole_text t.decls.list h;
+      },
+    )
+read_so text under lines w cut none some (readings.No number why) (missing, begun, place, end) = inr (record {
   lines = lines;
   rest = under;
   cut = cut;
@@ -192,16 +198,18 @@ judged_so text under lines w cut none some (judgements.No number why) (missing, 
     is_none n t (inl other) = other (transcript_cut text under lines cut n t).0
     is_none n t (inr short) = let full : w ≡ true = some (transcript_cut text under lines cut n t).1 in absurd (cc)
 
-pub judged_text : (text under : List ℕ) (lines : List (List ℕ)) (w : Bool) → IsCut text lines under → IsTrue w ↔ (under ≡ []) → (r : Result Judgement NoMemory) → IfOk r (IsJudgedAt lines w) → IfOk r (IsJudged text)
-judged_text text under lines w cut empty (Ok j) is = judged_so text under lines w cut empty.0 empty.1 j is
-judged_text text under lines w cut empty (Err fault) is = is
+pub read_text : (text under : List ℕ) (lines : List (List ℕ)) (w : Bool) → IsCut text lines under → IsTrue w ↔ (under ≡ []) → (r : Result Reading NoMemory) → IfOk r (IsReadAt lines w) → IfOk r (IsRead text)
+read_text text under lines w cut empty (Ok reading) is = read_so text under lines w cut empty.0 empty.1 reading is
+read_text text under lines w cut empty (Err fault) is = is
 
-pub good_begins : (judge : Judge) (lines : List (List ℕ)) → Judges judge lines → BeginsTranscript lines
-good_begins judge lines j = begins judge lines j
+-- a text of good lines that lacks its last, or the end of that
+pub none_at : (judge : Judge) (all : List (List ℕ)) (whole : Bool) (n : ℕ) (r : Result Reading NoMemory) → Judges judge all → n ≡ length all → (IsTranscript all → ⊥) ⊎ (whole ≡ false)
+    → IfOk r (λ x. x ≡ readings.No (n + 1) 4) → IfOk r (IsReadAt all whole)
+none_at judge all whole n (Ok reading) j count missing told =
+    subst (λ (x : Reading). IsReadAt all whole x) (sym told) (missing, begins judge all j, ap (λ (k : ℕ). k + 1) count, refl)
+none_at judge all whole n (Err fault) j count missing told = told
 
--- a text of good lines that lacks its last
-pub none_at : (all : List (List ℕ)) (whole : Bool) (n why : ℕ) (v : Verdict) (r : Result Judgement NoMemory) → BeginsTranscript all → n ≡ length all → v ≡ verdicts.Bad why → IsLastVerdict all (Ok v)
-    → IfOk r (λ j. j ≡ judgements.No (n + 1) 4) → IfOk r (IsJudgedAt all whole)
-none_at all whole n why v (Ok j) begun count is last told =
-    subst (λ (x : Judgement). IsJudgedAt all whole x) (sym told) (inl (subst (λ (x : Verdict). IsLastVerdict all (Ok x)) is last).0, begun, ap (λ (k : ℕ). k + 1) count, refl)
-none_at all whole n why v (Err fault) begun count is last told = told
+-- ---- what is said of it
+
+pub judged : (t : Transcript) (n : ℕ) (text : List ℕ) → ((h : List NodeEntry) → Tells (declared_of t.decls.list) h t.engine → n ≡ length t.decls.list + length h) → IsRead text (readings.Transcript t) → IsJudged text (judgements.Yes n)
+judged t n text many (h, is) = record { ds = t.decls.list; accepted = is.accepted; h = h; alone = is.alone; whole = is.whole; count = many h is.made }

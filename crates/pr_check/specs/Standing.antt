@@ -1,10 +1,10 @@
 -- What a judge stands for.
-use Rattle.std.specs.Prelude.{ℕ, ◌≡◌, ◌⊎◌, List, [], ◌∷◌, ◌++◌, Bool, Result, Ok, Err}
+use Rattle.std.specs.Prelude.{ℕ, ◌≡◌, ◌⊎◌, List, [], ◌∷◌, ◌++◌, Bool, Option, Some, None, Result, Ok, Err}
 use Rattle.pr_script.specs.declared.decl.Decl.{Decl}
 use Rattle.pr_script.specs.Labels.{AreLabels}
 use Rattle.pr_script.specs.Printing.{decl_lines}
 use Rattle.pr_sim.specs.Making.{declared_of}
-use Rattle.pr_sim.specs.Running.{IsRunning}
+use Rattle.pr_sim.specs.Running.{IsRunning, Tells}
 use Rattle.pr_sim.specs.declared.engine.Engine.{Engine}
 use Rattle.pr_stamps.specs.declared.no_memory.NoMemory.{NoMemory}
 use Rattle.pr_story.specs.History.{NodeEntry}
@@ -14,6 +14,7 @@ use Rattle.pr_check.specs.Judging.{AreHeads, BeginsTranscript, IsAlone, IsBroken
 use Rattle.pr_check.specs.declared.judge.Judge.{Judge}
 use Rattle.pr_check.specs.declared.stage.Stage.{Stage}
 use Rattle.pr_check.specs.declared.stage.Stage.TheVariants as stages
+use Rattle.pr_check.specs.declared.transcript.Transcript.{Transcript}
 use Rattle.pr_check.specs.declared.verdict.Verdict.{Verdict}
 use Rattle.pr_check.specs.declared.verdict.Verdict.TheVariants as verdicts
 
@@ -22,10 +23,14 @@ abbrev pub HasReplayed : List Decl → Engine → List (List ℕ) → Type 0
 HasReplayed ds e lines =
     (attached : ℕ → Bool) × (h : List NodeEntry) × IsRunning (declared_of ds) attached h e × HasAllAttached attached h × (lines ≡ told_lines ds h)
 
+-- the engine has made a whole history, and these are all lines of its transcript
+abbrev pub HasEnded : List Decl → Engine → List (List ℕ) → Type 0
+HasEnded ds e lines = (h : List NodeEntry) × IsAlone ds h × Tells (declared_of ds) h e × (lines ≡ whole_lines ds h)
+
 abbrev pub StandsAt : List Decl → Stage → List (List ℕ) → Type 0
 StandsAt ds stages.Heads lines = lines ≡ decl_lines [] ds
 StandsAt ds (stages.Events e) lines = HasReplayed ds e lines × ¬ AreHeads lines
-StandsAt ds stages.Ended lines = (h : List NodeEntry) × IsAlone ds h × (lines ≡ whole_lines ds h)
+StandsAt ds (stages.Ended e) lines = HasEnded ds e lines
 StandsAt ds stages.Spent lines = ⊥
 
 -- what is known of a judge's declarations, whatever its verdicts were
@@ -59,8 +64,13 @@ IsVerdict lines line now (Ok verdicts.Good) = BeginsTranscript (lines ++ line �
 IsVerdict lines line now (Ok (verdicts.Bad why)) = ¬ BeginsTranscript (lines ++ line ∷ []) × IsBroken lines line why × IsSpent now
 IsVerdict lines line now (Err fault) = IsSpent now
 
--- the verdict at the end of the text
-abbrev pub IsLastVerdict : List (List ℕ) → Result Verdict NoMemory → Type 0
-IsLastVerdict lines (Ok verdicts.Good) = IsTranscript lines
-IsLastVerdict lines (Ok (verdicts.Bad why)) = ¬ IsTranscript lines × (why ≡ 4)
-IsLastVerdict lines (Err fault) = ⊥
+-- these are all lines of the transcript
+pub record HasLines (t : Transcript) (lines : List (List ℕ)) : Type 0 where
+  pub accepted : AreAccepted t.decls.list
+  pub ended : HasEnded t.decls.list t.engine lines
+
+-- what the lines are, behind which no line comes
+abbrev pub IsFinished : List (List ℕ) → Result (Option Transcript) NoMemory → Type 0
+IsFinished lines (Ok (Some t)) = HasLines t lines
+IsFinished lines (Ok None) = ¬ IsTranscript lines
+IsFinished lines (Err fault) = ⊥

@@ -4,16 +4,21 @@ use Rattle.std.specs.List.{AllByRecursion, flat_map}
 use Rattle.pr_script.specs.declared.decl.Decl.{Decl}
 use Rattle.pr_script.specs.Reading.{HasNoEnd, IsCut, ended}
 use Rattle.pr_story.specs.History.{NodeEntry}
+use Rattle.pr_sim.specs.Making.{declared_of}
+use Rattle.pr_sim.specs.Running.{Tells}
 use Rattle.pr_text.specs.Histories.{transcript_text}
 use Rattle.pr_check.specs.Heads.{AreAccepted}
 use Rattle.pr_check.specs.Judging.{BeginsTranscript, IsAlone, IsBroken, IsTranscript}
-use Rattle.pr_check.specs.Standing.{Judges}
+use Rattle.pr_check.specs.Standing.{HasLines, Judges}
 use Rattle.pr_check.specs.declared.finding.Finding.{Finding}
 use Rattle.pr_check.specs.declared.finding.Finding.TheVariants as findings
 use Rattle.pr_check.specs.declared.judge.Judge.{Judge}
 use Rattle.pr_check.specs.declared.judgement.Judgement.{Judgement}
 use Rattle.pr_check.specs.declared.judgement.Judgement.TheVariants as judgements
+use Rattle.pr_check.specs.declared.reading.Reading.{Reading}
+use Rattle.pr_check.specs.declared.reading.Reading.TheVariants as readings
 use Rattle.pr_check.specs.declared.text_judge.TextJudge.{TextJudge}
+use Rattle.pr_check.specs.declared.transcript.Transcript.{Transcript}
 
 -- ---- texts
 
@@ -57,6 +62,18 @@ pub record EndsEarly (text : List ℕ) (number why : ℕ) : Type 0 where
 
 -- ---- what is answered
 
+-- the nodes have made this history of what is declared, and the text is its transcript
+pub record IsTextOf (t : Transcript) (h : List NodeEntry) (text : List ℕ) : Type 0 where
+  pub accepted : AreAccepted t.decls.list
+  pub alone : IsAlone t.decls.list h
+  pub made : Tells (declared_of t.decls.list) h t.engine
+  pub whole : text ≡ transcript_text t.decls.list h
+
+-- the text is the transcript of what the nodes have made; or it is none
+abbrev pub IsRead : List ℕ → Reading → Type 0
+IsRead text (readings.Transcript t) = (h : List NodeEntry) × IsTextOf t h text
+IsRead text (readings.No number why) = HasFirstBad text number why ⊎ EndsEarly text number why
+
 abbrev pub IsJudged : List ℕ → Judgement → Type 0
 IsJudged text (judgements.Yes n) = IsTranscriptOf text n
 IsJudged text (judgements.No number why) = HasFirstBad text number why ⊎ EndsEarly text number why
@@ -66,9 +83,9 @@ judgement_line (judgements.Yes n) = codes "yes " ++ (decimal n ++ 10 ∷ [])
 judgement_line (judgements.No number why) = codes "no " ++ (decimal number ++ (codes " why " ++ (decimal why ++ 10 ∷ [])))
 
 -- the lines are those of a transcript, and nothing stands behind them; or one is missing, or a last one has no end
-abbrev pub IsJudgedAt : List (List ℕ) → Bool → Judgement → Type 0
-IsJudgedAt lines whole (judgements.Yes n) = IsTranscript lines × (whole ≡ true) × (length lines ≡ n + 1)
-IsJudgedAt lines whole (judgements.No number why) =
+abbrev pub IsReadAt : List (List ℕ) → Bool → Reading → Type 0
+IsReadAt lines whole (readings.Transcript t) = HasLines t lines × (whole ≡ true)
+IsReadAt lines whole (readings.No number why) =
     (¬ IsTranscript lines ⊎ (whole ≡ false)) × BeginsTranscript lines × (number ≡ length lines + 1) × (why ≡ 4)
 
 -- ---- what a judge keeps

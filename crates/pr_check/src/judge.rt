@@ -2,14 +2,15 @@
 ghost use Rattle.pr_check.specs.Heads.{begins_head};
 ghost use Rattle.pr_check.specs.Judging.{IsAsHead};
 ghost use Rattle.pr_check.specs.Lines.{IsEventLine};
-ghost use Rattle.pr_check.specs.Standing.{HasDecls, HasReplayed, IsLastVerdict, IsRefused, IsSpent, IsUsable, IsVerdict, Judges};
+ghost use Rattle.pr_check.specs.Standing.{HasDecls, HasReplayed, IsFinished, IsRefused, IsSpent, IsUsable, IsVerdict, Judges};
 ghost use Rattle.pr_script.specs.Printing.{decl_lines};
-ghost use Rattle.std.specs.Prelude.{[], IsTrue, List, ℕ};
+ghost use Rattle.std.specs.Prelude.{[], IsErr, IsTrue, List, ℕ};
 
 use crate::head::{begins_head, no_decls, read_head};
 use crate::line::read_line;
 use crate::replay::{is_last_line, replay};
 use crate::stage::Stage;
+use crate::transcript::Transcript;
 use crate::verdict::Verdict;
 use pr_script::Decls;
 use pr_sim::Engine;
@@ -53,21 +54,27 @@ impl Judge {
                 self.behind_heads(engine, line)
             }
             Stage::Events(engine) => self.behind_heads(engine, line),
-            Stage::Ended => Ok(Verdict::Bad { why: 4 }),
+            Stage::Ended(_) => Ok(Verdict::Bad { why: 4 }),
             Stage::Spent => Err(NoMemory),
         }
     }
 
-    /// The verdict on the whole text. A spent judge answers NoMemory.
-    pub fn finish(self) -> Result<Verdict, NoMemory>
-        ensures verdict { (lines : List (List ℕ)) → Judges self lines → IsLastVerdict lines result }
-        ensures spent { IsSpent self → IsRefused result }
+    /// The transcript that the lines are, or None where they are none: a last line is missing. A spent judge answers
+    /// NoMemory.
+    pub fn finish(self) -> Result<Option<Transcript>, NoMemory>
+        ensures finished { (lines : List (List ℕ)) → Judges self lines → IsFinished lines result }
+        ensures spent { IsSpent self → IsErr result }
     {
-        match self.stage {
-            Stage::Ended => Ok(Verdict::Good),
+        let Judge {
+            alloc: _,
+            decls,
+            stage,
+        } = self;
+        match stage {
+            Stage::Ended(engine) => Ok(Some(Transcript { decls, engine })),
             Stage::Spent => Err(NoMemory),
-            Stage::Heads => Ok(Verdict::Bad { why: 4 }),
-            Stage::Events(_) => Ok(Verdict::Bad { why: 4 }),
+            Stage::Heads => Ok(None),
+            Stage::Events(_) => Ok(None),
         }
     }
 
@@ -97,7 +104,7 @@ impl Judge {
     {
         let mut engine = engine;
         let Some(said) = read_line(self.alloc, &self.decls, line)? else {
-            return self.last(&engine, line);
+            return self.last(engine, line);
         };
         if !replay(self.alloc, &mut engine, &self.decls, said, line)? {
             return Ok(Verdict::Bad { why: 3 });
@@ -107,20 +114,20 @@ impl Judge {
     }
 
     // The verdict on a line that is no event's.
-    fn last(&mut self, engine: &Engine, line: &[u8]) -> Result<Verdict, NoMemory>
+    fn last(&mut self, engine: Engine, line: &[u8]) -> Result<Verdict, NoMemory>
         requires decls { HasDecls self.old.decls.list }
         requires spent { IsSpent self.old }
-        requires replayed { (lines : List (List ℕ)) × HasReplayed self.old.decls.list engine.now lines }
+        requires replayed { (lines : List (List ℕ)) × HasReplayed self.old.decls.list engine lines }
         requires none { ¬ IsEventLine self.old.decls.list line.now }
-        ensures { (lines : List (List ℕ)) → HasReplayed self.old.decls.list engine.now lines → ¬ IsAsHead lines line.now → IsVerdict lines line.now self.new result }
+        ensures { (lines : List (List ℕ)) → HasReplayed self.old.decls.list engine lines → ¬ IsAsHead lines line.now → IsVerdict lines line.now self.new result }
     {
         if !line.starts_with(b"ok") {
             return Ok(Verdict::Bad { why: 2 });
         }
-        if !is_last_line(self.alloc, engine, &self.decls, line)? {
+        if !is_last_line(self.alloc, &engine, &self.decls, line)? {
             return Ok(Verdict::Bad { why: 4 });
         }
-        self.stage = Stage::Ended;
+        self.stage = Stage::Ended(engine);
         Ok(Verdict::Good)
     }
 }

@@ -9,8 +9,8 @@ pub enum Stage {
     Heads,
     /// Other lines too, whose events the engine has made again.
     Events(Engine),
-    /// All lines of a transcript.
-    Ended,
+    /// All lines of a transcript, whose events the engine has made again.
+    Ended(Engine),
     /// A bad line, or memory ran out.
     Spent,
 }

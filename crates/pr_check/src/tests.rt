@@ -255,8 +255,8 @@ fn judged(alloc: Global, lines: &[&[u8]]) -> Option<(usize, u8)> {
         }
     }
     match judge.finish() {
-        Ok(Verdict::Good) => Some((0, 0)),
-        Ok(Verdict::Bad { why }) => Some((0, why)),
+        Ok(Some(_)) => Some((0, 0)),
+        Ok(None) => Some((0, 4)),
         Err(_) => None,
     }
 }

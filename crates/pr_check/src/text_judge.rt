@@ -1,13 +1,13 @@
 // A judge of a text.
 ghost use Rattle.pr_check.specs.Standing.{IsUsable, Judges};
-ghost use Rattle.pr_check.specs.Texts.{HasRead, IsJudged, IsJudgedAt};
+ghost use Rattle.pr_check.specs.Texts.{HasRead, IsRead, IsReadAt};
 ghost use Rattle.pr_check.specs.declared.finding.Finding.TheVariants as findings;
 ghost use Rattle.pr_script.specs.Reading.{IsCut};
 ghost use Rattle.std.specs.Prelude.{◌≡◌, ◌+◌, ◌++◌, ◌∷◌, [], IfOk, IsErr, IsTrue, ◌↔◌, List, OnErr, OnOk, length, ℕ};
 
 use crate::finding::Finding;
 use crate::judge::Judge;
-use crate::judgement::Judgement;
+use crate::reading::Reading;
 use crate::verdict::Verdict;
 use pr_stamps::{Bytes, NoMemory, Seq};
 use std::alloc::Global;
@@ -58,8 +58,8 @@ impl TextJudge {
     }
 
     /// What the whole text is. A last line without its end counts as none.
-    pub fn finish(self) -> Result<Judgement, NoMemory>
-        ensures judged { (text : List ℕ) → HasRead self text → IfOk result (IsJudged text) }
+    pub fn finish(self) -> Result<Reading, NoMemory>
+        ensures read { (text : List ℕ) → HasRead self text → IfOk result (IsRead text) }
         ensures spent { self.finding ≡ findings.Spent → IsErr result }
     {
         let TextJudge {
@@ -69,8 +69,8 @@ impl TextJudge {
             finding,
         } = self;
         match finding {
-            Finding::Good => judged(judge, lines, under.is_empty()),
-            Finding::Bad { line, why } => Ok(Judgement::No { line, why }),
+            Finding::Good => read(judge, lines, under.is_empty()),
+            Finding::Bad { line, why } => Ok(Reading::No { line, why }),
             Finding::Spent => Err(NoMemory),
         }
     }
@@ -122,24 +122,22 @@ impl TextJudge {
 }
 
 // What a text of so many lines is, none of them bad, with no line under way behind them or with one.
-fn judged(judge: Judge, lines: u64, whole: bool) -> Result<Judgement, NoMemory>
-    ensures { (all : List (List ℕ)) → Judges judge all → lines ≡ length all → IfOk result (IsJudgedAt all whole) }
+fn read(judge: Judge, lines: u64, whole: bool) -> Result<Reading, NoMemory>
+    ensures { (all : List (List ℕ)) → Judges judge all → lines ≡ length all → IfOk result (IsReadAt all whole) }
 {
     match judge.finish()? {
-        Verdict::Good if whole => Ok(Judgement::Yes {
-            lines: lines.saturating_sub(1),
-        }),
-        Verdict::Good => too_short(lines),
-        Verdict::Bad { .. } => too_short(lines),
+        Some(transcript) if whole => Ok(Reading::Transcript(transcript)),
+        Some(_) => too_short(lines),
+        None => too_short(lines),
     }
 }
 
 // What a text of so many lines is that lacks its last line.
-fn too_short(lines: u64) -> Result<Judgement, NoMemory>
-    ensures { IfOk result (λ j. j ≡ Judgement.No (lines + 1) 4) }
+fn too_short(lines: u64) -> Result<Reading, NoMemory>
+    ensures { IfOk result (λ r. r ≡ Reading.No (lines + 1) 4) }
 {
     let line = one_more(lines)?;
-    Ok(Judgement::No { line, why: 4 })
+    Ok(Reading::No { line, why: 4 })
 }
 
 // The number after this one. A text of 2^64 lines is none that memory has.

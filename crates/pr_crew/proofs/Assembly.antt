@@ -24,6 +24,7 @@ use Rattle.pr_story.proofs.Merging.{journal_all}
 use Rattle.pr_story.proofs.Sorted.{contains_none, first_or_later, is_first, is_later, pairs_first, pairs_later}
 use Rattle.pr_crew.specs.Assembly.{AreMadeBy, IsAssembled, PhasesAreAssembled, made_at, parts_of, with_entry}
 use Rattle.pr_crew.specs.Jobs.{IsNew}
+use Rattle.pr_crew.proofs.Plain.{plain_reverse}
 use Rattle.pr_crew.proofs.Placed.{placed_in_turn, places_after, turns}
 use Rattle.pr_story.specs.Places.{places_of}
 
@@ -281,15 +282,6 @@ module _ (plan : Plan) (h : List NodeEntry) (nodes : ℕ → List Entry) (jobs :
         ap (λ (xs : List New). plain (cons_option (slice_get xs p.1) (entries_at lists ps))) (list_is p.0)
         ∙ get_same p.0 [] (nodes p.0) (list p.0) (lifted p.0) p.1 (entries_at lists ps)
         ∙ ap (λ (ms : List NodeEntry). with_entry p.0 (slice_get (nodes p.0) p.1) ms) (plain_at ps)
-
-    plain_append : (xs ys : List New) → plain (xs ++ ys) ≡ plain xs ++ plain ys
-    plain_append [] ys = refl
-    plain_append (x ∷ xs) ys = ap (λ (ms : List NodeEntry). x.made ∷ ms) (plain_append xs ys)
-
-    plain_reverse : (xs : List New) → plain (reverse xs) ≡ reverse (plain xs)
-    plain_reverse [] = refl
-    plain_reverse (x ∷ xs) =
-        ap plain (reverse-append (x ∷ []) xs) ∙ plain_append (reverse xs) (x ∷ []) ∙ ap (λ (ms : List NodeEntry). ms ++ x.made ∷ []) (plain_reverse xs) ∙ sym (reverse-append (x.made ∷ []) (plain xs))
 
     just_append : (xs ys : List New) → just (xs ++ ys) ≡ just xs ++ just ys
     just_append [] ys = refl

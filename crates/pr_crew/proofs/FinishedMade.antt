@@ -13,6 +13,7 @@ use Rattle.pr_story.specs.Merging.{AreApart, New, just, plain}
 use Rattle.pr_story.specs.Phases.{IsApartJob, JobGivesAs}
 use Rattle.pr_story.specs.Scripts.{JobGives}
 use Rattle.pr_text.specs.Steps.{client_job, job_of, jobs_of, stream_job}
+use Rattle.pr_wires.specs.Calls.{WireState}
 use Rattle.pr_crew.specs.declared.task.Task.{Task}
 use Rattle.pr_crew.specs.Jobs.{own}
 use Rattle.pr_crew.specs.Making.{NodeCell, NodePass}
@@ -26,7 +27,7 @@ use Rattle.pr_crew.proofs.Finished.{FinishedHaveMade, HaveFinished, HaveMade}
 use Rattle.pr_crew.proofs.Giving.{all_went, as_many, each_as, each_gives, job_as, owner_at, stop_at, task_at}
 use Rattle.pr_crew.proofs.Joined.{number_in}
 use Rattle.pr_crew.proofs.OfTasks.{at_or_past, in_task}
-use Rattle.pr_crew.proofs.Owning.{each, jobs, made_by, none}
+use Rattle.pr_crew.proofs.Owning.{crossed, each, jobs, made_by, none}
 use Rattle.pr_crew.proofs.Seen.{has_caller, own_same}
 
 length_just : (xs : List New) → length (just xs) ≡ length xs
@@ -40,7 +41,7 @@ length_just (x ∷ xs) =
 from_zero : (i : ℕ) → i ≡ 0 + i
 from_zero i = omega arith
 
-module _ {W : Type 0} (plan : Plan) (h : List NodeEntry) (inside : List Numbered) (count : ℕ) (cells : List NodeCell) (ts : List (Task W)) (nodes : ℕ → List Entry) (f : HaveFinished plan h inside count cells ts nodes) where
+module _ {W : Type 0} {state : W → WireState} (plan : Plan) (h : List NodeEntry) (inside : List Numbered) (count : ℕ) (cells : List NodeCell) (ts : List (Task W)) (nodes : ℕ → List Entry) (f : HaveFinished state plan h inside count cells ts nodes) where
   abbrev os : List Owner
   os = owners_of inside
 
@@ -100,10 +101,11 @@ module _ {W : Type 0} (plan : Plan) (h : List NodeEntry) (inside : List Numbered
       (λ q ys has made. ap (λ (es : List Entry). length es) (own_same plan h cells ts n (nodes n) l q ys (in_task n ts k t q is has) made) ∙ length_just ys)) in
       omega arith
 
-  have_made : HaveMade plan h inside count cells ts nodes (jobs plan h inside count cells ts nodes f)
+  have_made : HaveMade state plan h inside count cells ts nodes (jobs plan h inside count cells ts nodes f)
   have_made = record {
     made = made_by plan h inside count cells ts nodes f;
     each = each plan h inside count cells ts nodes f;
+    crossed = crossed plan h inside count cells ts nodes f;
     none = none plan h inside count cells ts nodes f;
     apart = apart_jobs;
     begun = all_begun;
@@ -112,4 +114,4 @@ module _ {W : Type 0} (plan : Plan) (h : List NodeEntry) (inside : List Numbered
   }
 
 pub finished_have_made : FinishedHaveMade
-finished_have_made W plan h inside count cells ts nodes f = (jobs plan h inside count cells ts nodes f, have_made plan h inside count cells ts nodes f)
+finished_have_made W state plan h inside count cells ts nodes f = (jobs plan h inside count cells ts nodes f, have_made plan h inside count cells ts nodes f)

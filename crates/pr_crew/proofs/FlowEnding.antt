@@ -5,7 +5,7 @@ use Rattle.std.proofs.lemmas.List.Elements.{All-contains, All-nil}
 use Rattle.pr_flow.specs.declared.flow_end.FlowEnd.{FlowEnd}
 use Rattle.pr_flow.specs.declared.flow_end.FlowEnd.TheVariants as ends
 use Rattle.pr_flow.specs.Calls.{Accepting, DownMakes, Ending, HasEnded, entry_of}
-use Rattle.pr_flow.specs.Flows.{Calls, Ends, EndsAtRest, EndsBehindGap, EndsOnTheWay, Flows, IsOfScript, IsStuck, Makes, Rest, Sides, is_at_destination, is_at_source}
+use Rattle.pr_flow.specs.Flows.{Calls, Ends, EndsAtRest, EndsBehindGap, EndsOnTheWay, Flows, IsOfScript, IsStuck, IsWhole, Makes, Rest, Sides, is_at_destination, is_at_source}
 use Rattle.pr_flow.specs.Flows.{events_of as told_of}
 use Rattle.pr_inval.specs.declared.msg.Msg.{Msg}
 use Rattle.pr_inval.specs.declared.node_fault.NodeFault.{NodeFault}
@@ -21,15 +21,19 @@ use Rattle.pr_story.specs.Merging.{IsNoMissing, New, plain}
 use Rattle.pr_story.specs.Scripts.{FlowJob, IsFlow, IsFlowBegun, JobBegins, events_of}
 use Rattle.pr_story.specs.Turns.{is_of_stream}
 use Rattle.pr_story.proofs.OfStreams.{after_gap}
+use Rattle.pr_wires.specs.Calls.{IsEmptyIfTold}
 use Rattle.pr_crew.specs.Acting.{AtCell, acts, made_through}
+use Rattle.pr_crew.specs.Crossing.{IsTakenFor}
 use Rattle.pr_crew.specs.Flowing.{FlowBegins, FlowEnds}
 use Rattle.pr_crew.specs.Jobs.{FlowFailed, FlowGives, FlowLied, MadeAt}
 use Rattle.pr_crew.specs.Making.{HasSeen, IsSameCaller, NodePass}
+use Rattle.pr_crew.proofs.Crossed.{crossed_over}
 use Rattle.pr_crew.proofs.FlowEvents.{IsUnderWay, accepted, gapped, idle_event, sent_event, stale_event, turned, under_way, went_down}
 use Rattle.pr_crew.proofs.FlowMore.{IsSpelled}
 use Rattle.pr_crew.proofs.FlowSteps.{Sofar, dst}
 use Rattle.pr_crew.proofs.FlowWalk.{Walked, no_memory, not_taken, not_turned, same_caller, stays, then_same}
-use Rattle.pr_crew.proofs.Sofar.{news, plain_append}
+use Rattle.pr_crew.proofs.Plain.{plain_append}
+use Rattle.pr_crew.proofs.Sofar.{news}
 
 -- ---- events
 
@@ -252,50 +256,58 @@ module _ (plan : Plan) (h : List NodeEntry) (s k : ℕ) where
 
   flow_ends : (turns : ℕ) (a b x y : AtCell) (old new : Remembered) (events : List Event) (end : Result FlowEnd NodeFault) (i : FlowBegins plan h s a b old)
       → Walked plan h s k (record { source = a; destination = b; session = means old }) i.source_is.pass i.destination_is.pass [] (record { source = x; destination = y; session = means new }) end events
-      → IsOfScript s turns events end → FlowEnds plan h s turns k a b x y new end
+      → IsOfScript s turns events end → (f : FlowEnds plan h s turns k a b x y new end) × (events_of (plain f.made) ≡ events)
   flow_ends turns a b x y old new events end i w of =
-      let c = w.sofar.common in
-      record {
-        source = w.source;
-        destination = w.destination;
-        has_source = w.sofar.has_source;
-        has_destination = w.sofar.has_destination;
-        same_source = λ p is. same_pass a.pass i.source_is.pass p w.source i.source_is.has is w.same_source;
-        same_destination = λ p is. same_pass b.pass i.destination_is.pass p w.destination i.destination_is.has is w.same_destination;
-        source_cell = w.source_cell;
-        destination_cell = w.destination_cell;
-        made = w.made;
-        done = record {
-          run = c.run;
-          source = w.sofar.source_made;
-          destination = w.sofar.destination_made;
-          gives = flow_gives s turns w.made events w.gives end of;
-          rises = c.rises;
-          of_stream = c.of_stream;
-          sides = c.sides;
-          stands = record { stream = c.stream; stands = c.stands; attached = λ on. c.attached };
-          lied = w.lied;
-          failed = w.failed;
-        };
-        spelled = λ x msg at is. All-contains (λ y. IsSpelled y.made.entry.event) w.made x c.spelled at msg is;
-      }
+      let c = w.sofar.common in (
+        record {
+          source = w.source;
+          destination = w.destination;
+          has_source = w.sofar.has_source;
+          has_destination = w.sofar.has_destination;
+          same_source = λ p is. same_pass a.pass i.source_is.pass p w.source i.source_is.has is w.same_source;
+          same_destination = λ p is. same_pass b.pass i.destination_is.pass p w.destination i.destination_is.has is w.same_destination;
+          source_cell = w.source_cell;
+          destination_cell = w.destination_cell;
+          made = w.made;
+          done = record {
+            run = c.run;
+            source = w.sofar.source_made;
+            destination = w.sofar.destination_made;
+            gives = flow_gives s turns w.made events w.gives end of;
+            rises = c.rises;
+            of_stream = c.of_stream;
+            sides = c.sides;
+            stands = record { stream = c.stream; stands = c.stands; attached = λ on. c.attached };
+            lied = w.lied;
+            failed = w.failed;
+          };
+          spelled = λ x msg at is. All-contains (λ y. IsSpelled y.made.entry.event) w.made x c.spelled at msg is;
+        },
+        w.gives,
+      )
 
-  pub flow_done : (turns : ℕ) (a b x y : AtCell) (old new : Remembered) (g g1 t t1 : Option (List ℕ)) (end : Result FlowEnd NodeFault) → IsTrue old.attached
+  pub flow_done : (turns : ℕ) (a b x y : AtCell) (old new : Remembered) (g g1 t t1 : Option (List ℕ)) (end : Result FlowEnd NodeFault) → IsTrue old.attached → IsEmptyIfTold t
       → Flows made_through acts made_through acts old.stream turns (record { source = a; destination = b; session = means old }) (record { source = x; destination = y; session = means new }) g g1 t t1 end
-      → FlowBegins plan h s a b old → FlowEnds plan h s turns k a b x y new end
-  flow_done turns a b x y old new g g1 t t1 end on flow i =
+      → FlowBegins plan h s a b old
+      → (f : FlowEnds plan h s turns k a b x y new end) × (IsWhole end → (events_of (plain f.made) ≢ Down s Failed ∷ []) × IsTakenFor s (events_of (plain f.made)) t1)
+  flow_done turns a b x y old new g g1 t t1 end on empty flow i =
       let start : Sides AtCell AtCell = record { source = a; destination = b; session = means old } in
       let last : Sides AtCell AtCell = record { source = x; destination = y; session = means new } in
       let f = subst (λ (j : ℕ). Flows made_through acts made_through acts j turns start last g g1 t t1 end) i.session_is.stream flow in
       let calls = f.2.calls in
-      flow_ends turns a b x y old new (told_of f.0) end i
-      (walk calls.0 last f.1 end f.0 start i.source_is.pass i.destination_is.pass [] None turns (begun a b old i on) tt calls.1 calls.2) f.3
+      let e = flow_ends turns a b x y old new (told_of f.0) end i
+      (walk calls.0 last f.1 end f.0 start i.source_is.pass i.destination_is.pass [] None turns (begun a b old i on) tt calls.1 calls.2) f.3 in (
+        e.0,
+        λ whole. subst (λ (events : List Event). (events ≢ Down s Failed ∷ []) × IsTakenFor s events t1) (sym e.1)
+            (crossed_over made_through acts made_through acts s f.1 calls.0 last turns (told_of f.0) end t t1 whole empty calls.2 f.2.taken),
+      )
 
   -- ---- a flow without a connection
 
   -- that it went down was noted
   pub unconnected_down : (turns : ℕ) (a b y : AtCell) (old new : Remembered) → IsTrue old.attached → FlowBegins plan h s a b old → DownMakes (made_through b) (made_through y) (means old) (means new) Failed (Ok tt)
-      → acts b (Ending Failed (means old) (means new)) None y → FlowEnds plan h s turns k a b a y new (Ok (ends.Down Failed))
+      → acts b (Ending Failed (means old) (means new)) None y
+      → (f : FlowEnds plan h s turns k a b a y new (Ok (ends.Down Failed))) × (events_of (plain f.made) ≡ Down s Failed ∷ [])
   unconnected_down turns a b y old new on i (time, caller, made, session) act =
       let start : Sides AtCell AtCell = record { source = a; destination = b; session = means old } in
       let last : Sides AtCell AtCell = record { source = a; destination = y; session = means new } in
@@ -312,7 +324,8 @@ module _ (plan : Plan) (h : List NodeEntry) (s k : ℕ) where
 
   -- the destination refused to note it
   pub unconnected_refused : (turns : ℕ) (a b y : AtCell) (old new : Remembered) (fault : NodeFault) → IsTrue old.attached → FlowBegins plan h s a b old
-      → DownMakes (made_through b) (made_through y) (means old) (means new) Failed (Err fault) → acts b (Ending Failed (means old) (means new)) (Some fault) y → FlowEnds plan h s turns k a b a y new (Err fault)
+      → DownMakes (made_through b) (made_through y) (means old) (means new) Failed (Err fault) → acts b (Ending Failed (means old) (means new)) (Some fault) y
+      → (f : FlowEnds plan h s turns k a b a y new (Err fault)) × (events_of (plain f.made) ≡ [])
   unconnected_refused turns a b y old new fault on i (made, session) act =
       let start : Sides AtCell AtCell = record { source = a; destination = b; session = means old } in
       let last : Sides AtCell AtCell = record { source = a; destination = y; session = means new } in

@@ -3,6 +3,7 @@ pub mod Called
 pub mod Entries
 pub mod MadeMore
 pub mod Adding
+pub mod Plain
 pub mod Sofar
 pub mod Through
 pub mod Placed
@@ -12,8 +13,10 @@ pub mod FlowSteps
 pub mod FlowWalk
 pub mod Joined
 pub mod FlowEvents
+pub mod Crossed
 pub mod FlowEnding
 pub mod Ran
+pub mod NewJobs
 pub mod Finished
 pub mod Places
 pub mod Starts
@@ -35,6 +38,7 @@ pub mod Splitting
 pub mod Closing
 pub mod Opening
 pub mod Planned
+pub mod Honest
 pub mod Whole
 pub mod Here
 pub mod Filling
@@ -42,4 +46,5 @@ pub mod Appending
 pub mod Outcome
 pub mod Represented
 pub mod Stopped
+pub mod Carried
 pub mod Phased

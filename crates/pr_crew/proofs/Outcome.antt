@@ -1,7 +1,7 @@
 -- What the jobs of a phase made, once all of them have ended and all cells are closed, can be added to the history.
-use Rattle.std.proofs.Common.{◌≡◌, ℕ, zero, suc, ◌<◌, ◌≤◌, List, [], ◌∷◌, ◌++◌, Contains, inl, inr, sym, ap, ◌∙◌, subst, get_or, length, reverse}
-use Rattle.std.specs.Prelude.{All, IsTrue, None, Result, Some, slice_get}
-use Rattle.std.proofs.lemmas.List.Elements.{All-contains, All-head, All-tail}
+use Rattle.std.proofs.Common.{◌≡◌, ℕ, ◌<◌, ◌≤◌, List, ◌++◌, Contains, inl, inr, sym, ap, ◌∙◌, subst, get_or, length, reverse}
+use Rattle.std.specs.Prelude.{IsTrue, None, Result, Some, slice_get}
+use Rattle.std.proofs.lemmas.List.Elements.{All-contains}
 use Rattle.pr_flow.specs.declared.stop.Stop.{Stop}
 use Rattle.pr_merge.specs.Holding.{HeldState}
 use Rattle.pr_merge.specs.Merged.{IsMerged}
@@ -18,6 +18,7 @@ use Rattle.pr_story.specs.Merging.{IsNoMissing, New}
 use Rattle.pr_story.specs.Turns.{is_of_stream}
 use Rattle.pr_story.proofs.Sorted.{contains_none}
 use Rattle.pr_text.specs.Steps.{stream_job}
+use Rattle.pr_wires.specs.Calls.{WireState}
 use Rattle.pr_crew.specs.declared.task.FlowTask.{FlowTask}
 use Rattle.pr_crew.specs.declared.task.Task.{Task}
 use Rattle.pr_crew.specs.declared.task.Task.TheVariants as tasks
@@ -34,18 +35,12 @@ use Rattle.pr_crew.proofs.Finished.{HaveFinished, HaveMade}
 use Rattle.pr_crew.proofs.FinishedMade.{finished_have_made}
 use Rattle.pr_crew.proofs.Giving.{owner_at}
 use Rattle.pr_crew.proofs.OfTasks.{at_or_past}
-use Rattle.pr_crew.proofs.Seen.{some_same}
+use Rattle.pr_crew.proofs.Places.{all_at_place}
 use Rattle.pr_crew.proofs.Shares.{IsPart, of_phase, part_of}
 use Rattle.pr_crew.proofs.Transport.{declared_client, declared_here, declared_stream, in_job}
 
--- what holds of all holds of the one at a place
-all_at_place : {X : Type 0} (P : X → Type 0) (xs : List X) (k : ℕ) (x : X) → All P xs → slice_get xs k ≡ Some x → P x
-all_at_place P [] k x all is = absurd (cc)
-all_at_place P (y ∷ xs) zero x all is = subst (λ z. P z) (some_same y x is) (All-head P y xs all)
-all_at_place P (y ∷ xs) (suc k) x all is = all_at_place P xs k x (All-tail P y xs all) is
-
-module _ {W : Type 0} (records : Declared → List NodeEntry → Type 0) (d : Declared) (h : List NodeEntry) (inside : List Numbered) (ws : List Work) (count : ℕ) (was now last : HeldState Stored) (stop : Result Stop NoMemory) (p : IsPlanned records d h inside ws count was) (beside : IsBeside was now) (r : HaveRun W d.plan h inside count (stream_job inside) now last ws stop) where
-  pub finished : HaveFinished d.plan h inside count r.cells r.jobs r.nodes
+module _ {W : Type 0} {state : W → WireState} (records : Declared → List NodeEntry → Type 0) (d : Declared) (h : List NodeEntry) (inside : List Numbered) (ws : List Work) (count : ℕ) (was now last : HeldState Stored) (stop : Result Stop NoMemory) (p : IsPlanned records d h inside ws count was) (beside : IsBeside was now) (r : HaveRun W state d.plan h inside count (stream_job inside) now last ws stop) where
+  pub finished : HaveFinished state d.plan h inside count r.cells r.jobs r.nodes
   finished = record {
     valid = p.represents.valid;
     works = subst (λ (vs : List Work). AreWorks d.plan h count inside (owners_of inside) vs) (sym r.works) p.planned;
@@ -58,10 +53,10 @@ module _ {W : Type 0} (records : Declared → List NodeEntry → Type 0) (d : De
 
   -- each job's own entries
   abbrev pub jobs : ℕ → List New
-  jobs k = (finished_have_made W d.plan h inside count r.cells r.jobs r.nodes finished).0 k
+  jobs k = (finished_have_made W state d.plan h inside count r.cells r.jobs r.nodes finished).0 k
 
-  pub have_made : HaveMade d.plan h inside count r.cells r.jobs r.nodes jobs
-  have_made = (finished_have_made W d.plan h inside count r.cells r.jobs r.nodes finished).1
+  pub have_made : HaveMade state d.plan h inside count r.cells r.jobs r.nodes jobs
+  have_made = (finished_have_made W state d.plan h inside count r.cells r.jobs r.nodes finished).1
 
   pub assembled : (places : List (ℕ × ℕ)) → IsMerged (parts_of r.nodes count) places → IsAssembled d.plan h r.nodes jobs places
   assembled places merged = phases_assembled d.plan h r.nodes jobs count places have_made.made r.none merged

@@ -13,9 +13,11 @@ use Rattle.pr_story.specs.History.{NodeEntry, Plan}
 use Rattle.pr_story.specs.Merging.{IsJobRun, New, just}
 use Rattle.pr_story.proofs.InOrder.{kept_is}
 use Rattle.pr_story.proofs.Sorted.{contains_none, first_or_later, is_first, is_later}
+use Rattle.pr_wires.specs.Calls.{WireState}
 use Rattle.pr_crew.specs.declared.task.Task.{Task}
 use Rattle.pr_crew.specs.declared.task.Task.TheVariants as tasks
 use Rattle.pr_crew.specs.Assembly.{AreMadeBy, IsOfOneNode}
+use Rattle.pr_crew.specs.Crossing.{JobCrosses}
 use Rattle.pr_crew.specs.Jobs.{IsNew, IsRun, own}
 use Rattle.pr_crew.specs.Making.{NodeCell, NodePass}
 use Rattle.pr_crew.specs.Tasks.{IsDone, passes_at, passes_of}
@@ -37,30 +39,40 @@ run_of : {W : Type 0} (plan : Plan) (h : List NodeEntry) (inside : List Numbered
 run_of plan h inside cells k (tasks.Client t) xs d = d.done.run
 run_of plan h inside cells k (tasks.Flow t) xs d = d.done.run
 
-module _ {W : Type 0} (plan : Plan) (h : List NodeEntry) (inside : List Numbered) (count : ℕ) (cells : List NodeCell) (ts : List (Task W)) (nodes : ℕ → List Entry) (f : HaveFinished plan h inside count cells ts nodes) where
+module _ {W : Type 0} {state : W → WireState} (plan : Plan) (h : List NodeEntry) (inside : List Numbered) (count : ℕ) (cells : List NodeCell) (ts : List (Task W)) (nodes : ℕ → List Entry) (f : HaveFinished state plan h inside count cells ts nodes) where
   -- ---- each job's entries
 
   abbrev Done : ℕ → Task W → List New → Type 0
-  Done k t xs = IsDone plan h inside cells k t xs
+  Done k t xs = IsDone plan h inside cells k t xs × JobCrosses state t xs
 
-  abbrev picked : (k : ℕ) (o : Option (Task W)) → ((t : Task W) → o ≡ Some t → (xs : List New) × Done k t xs) → List New
+  abbrev Found : ℕ → Option (Task W) → Type 0
+  Found k o = (t : Task W) → o ≡ Some t → (xs : List New) × IsDone plan h inside cells k t xs × JobCrosses state t xs
+
+  abbrev picked : (k : ℕ) (o : Option (Task W)) → Found k o → List New
   picked k None done = []
   picked k (Some t) done = (done t refl).0
 
-  picked_done : (k : ℕ) (o : Option (Task W)) (done : (t : Task W) → o ≡ Some t → (xs : List New) × Done k t xs) (t : Task W) → o ≡ Some t → Done k t (picked k o done)
+  picked_done : (k : ℕ) (o : Option (Task W)) (done : Found k o) (t : Task W) → o ≡ Some t → Done k t (picked k o done)
   picked_done k None done t is = absurd (cc)
-  picked_done k (Some u) done t is = subst (λ (v : Task W). Done k v (done u refl).0) (some_same u t is) (done u refl).1
+  picked_done k (Some u) done t is = let d = done u refl in subst (λ (v : Task W). Done k v d.0) (some_same u t is) (d.1, d.2)
 
-  picked_none : (k : ℕ) (o : Option (Task W)) (done : (t : Task W) → o ≡ Some t → (xs : List New) × Done k t xs) → o ≡ None → picked k o done ≡ []
+  picked_none : (k : ℕ) (o : Option (Task W)) (done : Found k o) → o ≡ None → picked k o done ≡ []
   picked_none k None done is = refl
   picked_none k (Some u) done is = absurd (cc)
 
   pub jobs : ℕ → List New
   jobs k = picked k (slice_get ts k) (f.done k)
 
-  pub each : (k : ℕ) (t : Task W) → slice_get ts k ≡ Some t → Done k t (jobs k)
+  both : (k : ℕ) (t : Task W) → slice_get ts k ≡ Some t → Done k t (jobs k)
   unfolding jobs
-  each k t is = picked_done k (slice_get ts k) (f.done k) t is
+  both k t is = picked_done k (slice_get ts k) (f.done k) t is
+
+  pub each : (k : ℕ) (t : Task W) → slice_get ts k ≡ Some t → IsDone plan h inside cells k t (jobs k)
+  each k t is = (both k t is).0
+
+  -- what each job's flow took crossed its wire
+  pub crossed : (k : ℕ) (t : Task W) → slice_get ts k ≡ Some t → JobCrosses state t (jobs k)
+  crossed k t is = (both k t is).1
 
   pub none : (k : ℕ) → length ts ≤ k → jobs k ≡ []
   unfolding jobs
@@ -152,7 +164,7 @@ module _ {W : Type 0} (plan : Plan) (h : List NodeEntry) (inside : List Numbered
 
   -- ---- the times of a job's entries
 
-  rise_of : (k : ℕ) (t : Task W) → slice_get ts k ≡ Some t → Done k t (jobs k) → IsStrictlyIncreasing (times_of (jobs k)) ⊎ IsOfOneNode plan h nodes jobs (jobs k)
+  rise_of : (k : ℕ) (t : Task W) → slice_get ts k ≡ Some t → IsDone plan h inside cells k t (jobs k) → IsStrictlyIncreasing (times_of (jobs k)) ⊎ IsOfOneNode plan h nodes jobs (jobs k)
   rise_of k (tasks.Client t) is d =
       let n : ℕ = t.work.node in
       let pass : Contains (passes_of {W = W} n (tasks.Client t)) d.pass = in_of_node n n t.pass d.pass d.used.has refl in

@@ -5,6 +5,7 @@ use Rattle.std.specs.List.{AllByRecursion}
 use Rattle.std.proofs.lemmas.List.Elements.{All-contains, All-weaker}
 use Rattle.pr_cell.specs.Passes.{HoldsAll, held}
 use Rattle.pr_flow.specs.declared.stop.Stop.{Stop}
+use Rattle.pr_flow.specs.declared.stop.Stop.TheVariants as stops
 use Rattle.pr_inval.specs.Standing.{Remembered}
 use Rattle.pr_merge.specs.Holding.{AreAllHere, AreSessions, HeldState}
 use Rattle.pr_node.specs.Stored.{Stored}
@@ -17,11 +18,14 @@ use Rattle.pr_story.specs.Counts.{Declared}
 use Rattle.pr_story.specs.History.{NodeEntry, Plan, journal}
 use Rattle.pr_story.proofs.Sorted.{is_first}
 use Rattle.pr_text.specs.Steps.{client_job, stream_job}
+use Rattle.pr_wires.specs.Calls.{WireState}
 use Rattle.pr_crew.specs.declared.sites.Sites.{Sites}
 use Rattle.pr_crew.specs.declared.work.FlowWork.{FlowWork}
 use Rattle.pr_crew.specs.declared.work.Work.{Work}
 use Rattle.pr_crew.specs.declared.work.Work.TheVariants as works
 use Rattle.pr_crew.specs.Assembly.{made_at}
+use Rattle.pr_crew.specs.Carrying.{PhaseCarries}
+use Rattle.pr_crew.specs.Crossing.{AreClosed}
 use Rattle.pr_crew.specs.Leaving.{HaveRun}
 use Rattle.pr_crew.specs.Making.{IsCellOf, NodeCell, NodePass}
 use Rattle.pr_crew.specs.Phases.{AreDistinct, CanRunJob, CanRunPhase, IsOut, IsPlanned, LeavesPhase, PhaseEnds, RepresentsNodes, SameAttached}
@@ -31,6 +35,7 @@ use Rattle.pr_crew.specs.Starting.{CanStart, IsLent}
 use Rattle.pr_crew.specs.Asking.{IsShort}
 use Rattle.pr_crew.specs.Works.{AreWorks, CanPlan, IsWork}
 use Rattle.pr_crew.proofs.Apart.{apart_at}
+use Rattle.pr_crew.proofs.Carried.{carried}
 use Rattle.pr_crew.proofs.Entries.{same_made}
 use Rattle.pr_crew.proofs.Outcome.{assembled, can_append, have_made, jobs}
 use Rattle.pr_crew.proofs.Represented.{at_contains, attached_same, represented}
@@ -191,8 +196,8 @@ module _ (records : Declared → List NodeEntry → Type 0) (d : Declared) (h : 
 
   -- ---- the end
 
-  module _ {W : Type 0} (later : Declared → List NodeEntry → Type 0) (last then : HeldState Stored) (stop : Result Stop NoMemory)
-      (r : HaveRun W d.plan h inside (length s.cells.items) (stream_job inside) now last ws stop)
+  module _ {W : Type 0} {state : W → WireState} (later : Declared → List NodeEntry → Type 0) (last then : HeldState Stored) (stop : Result Stop NoMemory)
+      (r : HaveRun W state d.plan h inside (length s.cells.items) (stream_job inside) now last ws stop)
       (a : HasAppended later d h (length s.cells.items) r.nodes last then) where
     abbrev pub new_of : List NodeEntry
     new_of = reverse (made_at r.nodes a.0)
@@ -222,3 +227,23 @@ module _ (records : Declared → List NodeEntry → Type 0) (d : Declared) (h : 
     leaves final (Ok x) fine same more (inr is) = absurd (cc)
     leaves final (Err x) fine same more answer =
         inl (new_of, stop, subst (λ (z : HeldState Stored). RepresentsNodes final d (new_of ++ h) z) (sym same) (move_records later final d (new_of ++ h) then (more (new_of ++ h)) all_represented), all_ended)
+
+    -- and each flow's wire is told of
+    pub carries : (final : Declared → List NodeEntry → Type 0) (result : Result Stop NoMemory) (fine : HeldState Stored) → fine ≡ then → ((g : List NodeEntry) → later d g → final d g) → (result ≡ stop) ⊎ (result ≡ Err (record {}))
+        → (before after : Option (List (List ℕ))) → AreClosed state r.jobs before after → PhaseCarries final d h inside fine before after result
+    carries final (Ok stops.Went) fine same more (inl is) before after closed = (
+      new_of,
+      subst (λ (z : HeldState Stored). RepresentsNodes final d (new_of ++ h) z) (sym same) (move_records later final d (new_of ++ h) then (more (new_of ++ h)) all_represented),
+      carried records d h inside ws (length s.cells.items) was now last stop o.planned r (jobs records d h inside ws (length s.cells.items) was now last stop o.planned o.beside r)
+          (have_made records d h inside ws (length s.cells.items) was now last stop o.planned o.beside r) a.0 (assembled records d h inside ws (length s.cells.items) was now last stop o.planned o.beside r a.0 a.1)
+          (sym is) before after closed,
+    )
+    carries final (Ok stops.Went) fine same more (inr is) before after closed = absurd (cc)
+    carries final (Ok (stops.Worn at)) fine same more answer before after closed = tt
+    carries final (Ok (stops.Lied stream number sent got)) fine same more answer before after closed = tt
+    carries final (Err x) fine same more answer before after closed = tt
+
+-- nothing is said of a phase that did not go its way
+pub none_carried : (final : Declared → List NodeEntry → Type 0) (d : Declared) (h : List NodeEntry) (inside : List Numbered) (s : HeldState Stored) (before now : Option (List (List ℕ))) (result : Result Stop NoMemory) (x : NoMemory) → result ≡ Err x
+    → PhaseCarries final d h inside s before now result
+none_carried final d h inside s before now result x is = subst (λ (z : Result Stop NoMemory). PhaseCarries final d h inside s before now z) (sym is) tt

@@ -1,7 +1,8 @@
 -- Lists by place.
-use Rattle.std.proofs.Common.{◌≡◌, ◌⊎◌, ℕ, zero, suc, ◌+◌, ◌<◌, ◌≤◌, List, [], ◌∷◌, ◌++◌, inl, inr, add-one, refl, sym, ◌∙◌, ap, length, set, arith}
-use Rattle.std.specs.Prelude.{Some, drop, reverse, slice_get, sum_by, take}
+use Rattle.std.proofs.Common.{◌≡◌, ◌⊎◌, ℕ, zero, suc, ◌+◌, ◌<◌, ◌≤◌, List, [], ◌∷◌, ◌++◌, inl, inr, add-one, refl, sym, ◌∙◌, ap, subst, length, set, arith}
+use Rattle.std.specs.Prelude.{All, Some, drop, reverse, slice_get, sum_by, take}
 use Rattle.std.proofs.lemmas.List.{length-drop, length-reverse, reverse-append, reverse-reverse}
+use Rattle.std.proofs.lemmas.List.Elements.{All-head, All-tail}
 use Rattle.std.proofs.lemmas.List.Sums.{sum_by-cons}
 use mathlib.Core.List.{head-eq_of_cons-eq, tail-eq_of_cons-eq}
 
@@ -26,6 +27,12 @@ module _ {X : Type 0} where
   get_set_other (z ∷ xs) zero (suc j) x other = refl
   get_set_other (z ∷ xs) (suc i) zero x other = refl
   get_set_other (z ∷ xs) (suc i) (suc j) x other = get_set_other xs i j x (λ is. other (ap suc is))
+
+  -- what holds of all holds of the one at a place
+  pub all_at_place : (P : X → Type 0) (xs : List X) (k : ℕ) (x : X) → All P xs → slice_get xs k ≡ Some x → P x
+  all_at_place P [] k x all is = absurd (cc)
+  all_at_place P (y ∷ xs) zero x all is = let same : y ≡ x = cc in subst (λ z. P z) same (All-head P y xs all)
+  all_at_place P (y ∷ xs) (suc k) x all is = all_at_place P xs k x (All-tail P y xs all) is
 
   pub sum_push : (f : X → ℕ) (xs : List X) (x : X) → sum_by f (xs ++ x ∷ []) ≡ sum_by f xs + f x
   sum_push f [] x = omega arith

@@ -26,11 +26,12 @@ use Rattle.pr_crew.specs.declared.task.Task.{Task}
 use Rattle.pr_crew.specs.declared.task.Task.TheVariants as tasks
 use Rattle.pr_crew.specs.Acting.{AtCell}
 use Rattle.pr_crew.specs.Clients.{IsSofar}
-use Rattle.pr_crew.specs.Flowing.{BeginsAt, FlowBegins, FlowEnds}
+use Rattle.pr_crew.specs.Crossing.{FlowCrosses}
+use Rattle.pr_crew.specs.Flowing.{BeginsAt, FlowBegins, FlowEnds, FlowEndsOver}
 use Rattle.pr_crew.specs.Jobs.{ClientDone}
 use Rattle.pr_crew.specs.Making.{HasSeen, IsCellOf, IsSameCaller, NodeCell, NodePass}
 use Rattle.pr_crew.specs.Stories.{stories}
-use Rattle.pr_crew.specs.Tasks.{HasRun, IsDoneClient, IsDoneFlow, IsFresh, IsNoLie, IsReadyClient, IsReadyFlow, IsSamePass, IsSameStream, IsUsed, count_of}
+use Rattle.pr_crew.specs.Tasks.{HasRun, IsDoneClient, IsDoneFlow, IsFresh, IsHonestEnd, IsReadyClient, IsReadyFlow, IsSamePass, IsSameStream, IsUsed, count_of}
 use Rattle.pr_crew.proofs.FlowEnding.{none_made}
 
 cell_here : (cells : List NodeCell) (n : ℕ) (here cell : NodeCell) → slice_get cells n ≡ Some cell → here ≡ slice_index_or cells n here → here ≡ cell
@@ -39,7 +40,7 @@ cell_here cells n here cell at is = is ∙ get_or_from_slice_get cells n cell he
 same_some : {X : Type 0} (o : Option X) (x y : X) → o ≡ Some x → o ≡ Some y → x ≡ y
 same_some o x y has is = let both : Some x ≡ Some y = sym has ∙ is in cc
 
-pub no_lie : (end : Result FlowEnd NodeFault) → IsSoundEnd end → IsNoLie end
+pub no_lie : (end : Result FlowEnd NodeFault) → IsSoundEnd end → IsHonestEnd end
 no_lie (Ok ends.Done) sound = tt
 no_lie (Ok ends.Stale) sound = tt
 no_lie (Ok (ends.Down cause)) sound = tt
@@ -122,11 +123,12 @@ module _ (plan : Plan) (h : List NodeEntry) (cells : List NodeCell) where
     cell_b = ap (λ (z : AtCell). z.cell) b_is
 
     pub flow_ran : (inside : List Numbered) (k : ℕ) (x y : AtCell) (new : Remembered) (source destination : Option NodePass) (wire : Option W) (end : Result FlowEnd NodeFault)
-        → (FlowBegins plan h t.work.stream side_a side_b old → FlowEnds plan h t.work.stream t.work.turns k side_a side_b x y new end)
+        → (FlowBegins plan h t.work.stream side_a side_b old → FlowEndsOver state wire plan h t.work.stream t.work.turns k side_a side_b x y new end)
         → source ≡ x.pass → destination ≡ y.pass → IfSome source (λ p. IsPassOf stories x.cell p) → IfSome destination (λ p. IsPassOf stories y.cell p)
-        → (xs : List New) × IsDoneFlow plan h inside cells k {W = W} (record { work = t.work; source = source; destination = destination; session = Some new; wire = wire; end = end }) xs
+        → let u : FlowTask W = record { work = t.work; source = source; destination = destination; session = Some new; wire = wire; end = end } in
+        (xs : List New) × IsDoneFlow plan h inside cells k {W = W} u xs × FlowCrosses state u xs
     flow_ran inside k x y new source destination wire end ends is_source is_destination of_source of_destination =
-        let e = ends flow_begins in
+        let (e, crossed) = ends flow_begins in
         let p_is : source ≡ Some e.source = is_source ∙ e.has_source in
         let q_is : destination ≡ Some e.destination = is_destination ∙ e.has_destination in
         let p_of : IsPassOf stories x.cell e.source = subst (λ (o : Option NodePass). IfSome o (λ p. IsPassOf stories x.cell p)) p_is of_source in
@@ -145,6 +147,7 @@ module _ (plan : Plan) (h : List NodeEntry) (cells : List NodeCell) where
             done = e.done;
             spelled = e.spelled;
           },
+          crossed,
         )
 
     pub passes_ran : (k : ℕ) (x y : AtCell) (new : Remembered) (source destination : Option NodePass) (end : Result FlowEnd NodeFault)
@@ -164,11 +167,11 @@ module _ (plan : Plan) (h : List NodeEntry) (cells : List NodeCell) where
 module _ {W : Type 0} (state : W → WireState) (cells : List NodeCell) (inside : List Numbered) (t : Task W) where
   pub client_has_run : (x y : ClientTask) → t ≡ tasks.Client x → ((plan : Plan) (h : List NodeEntry) (k : ℕ) → IsReadyClient plan h cells x → (xs : List New) × IsDoneClient plan h inside cells k y xs)
       → (y.work ≡ x.work) × IsSamePass x.pass y.pass → HasRun state cells inside t (tasks.Client y)
-  client_has_run x y is done stays = subst (λ (z : Task W). HasRun state cells inside z (tasks.Client y)) (sym is) (record { done = done; stays = stays; honest = tt })
+  client_has_run x y is done stays = subst (λ (z : Task W). HasRun state cells inside z (tasks.Client y)) (sym is) (record { done = λ plan h k r. let d = done plan h k r in (d.0, d.1, tt); stays = stays; honest = tt })
 
-  pub flow_has_run : (x y : FlowTask W) → t ≡ tasks.Flow x → ((plan : Plan) (h : List NodeEntry) (lines : List Numbered) (k : ℕ) → IsReadyFlow plan h cells {W = W} state x → (xs : List New) × IsDoneFlow plan h lines cells k {W = W} y xs)
+  pub flow_has_run : (x y : FlowTask W) → t ≡ tasks.Flow x → ((plan : Plan) (h : List NodeEntry) (lines : List Numbered) (k : ℕ) → IsReadyFlow plan h cells {W = W} state x → (xs : List New) × IsDoneFlow plan h lines cells k {W = W} y xs × FlowCrosses state y xs)
       → y.work ≡ x.work → IsSamePass x.source y.source × IsSamePass x.destination y.destination → IsSameStream x.session y.session → count_of y.wire ≡ count_of x.wire
-      → (IfSome x.wire (λ w. IsTrue (state w).sound) → IsNoLie y.end) → HasRun state cells inside t (tasks.Flow y)
+      → (IfSome x.wire (λ w. IsTrue (state w).sound) → IsHonestEnd y.end) → HasRun state cells inside t (tasks.Flow y)
   flow_has_run x y is done work passes session wire sound =
       subst (λ (z : Task W). HasRun state cells inside z (tasks.Flow y)) (sym is) (record { done = λ plan h k r. done plan h inside k r; stays = (work, passes.0, passes.1, session, wire); honest = sound })
 

@@ -24,6 +24,7 @@ use Rattle.pr_story.specs.Merging.{New, of_job, plain}
 use Rattle.pr_story.specs.Turns.{is_of_stream}
 use Rattle.pr_story.proofs.Lit.{bool_cases}
 use Rattle.pr_text.specs.Steps.{client_job, stream_job}
+use Rattle.pr_wires.specs.Calls.{WireState}
 use Rattle.pr_crew.specs.declared.task.Task.{Task}
 use Rattle.pr_crew.specs.declared.task.Task.TheVariants as tasks
 use Rattle.pr_crew.specs.declared.work.Work.{Work}
@@ -67,9 +68,9 @@ job_spelled : {W : Type 0} (plan : Plan) (h : List NodeEntry) (inside : List Num
 job_spelled plan h inside cells k (tasks.Client t) xs done = client_spelled t.work.client xs done.done.of_client
 job_spelled plan h inside cells k (tasks.Flow t) xs done = done.spelled
 
-module _ {W : Type 0} (records later : Declared → List NodeEntry → Type 0) (d : Declared) (h : List NodeEntry) (inside : List Numbered) (ws : List Work) (count : ℕ) (was now last : HeldState Stored) (stop : Result Stop NoMemory)
-    (p : IsPlanned records d h inside ws count was) (beside : IsBeside was now) (r : HaveRun W d.plan h inside count (stream_job inside) now last ws stop)
-    (jobs : ℕ → List New) (made : HaveMade d.plan h inside count r.cells r.jobs r.nodes jobs) (append : CanAppend d h ws count r.nodes jobs last)
+module _ {W : Type 0} {state : W → WireState} (records later : Declared → List NodeEntry → Type 0) (d : Declared) (h : List NodeEntry) (inside : List Numbered) (ws : List Work) (count : ℕ) (was now last : HeldState Stored) (stop : Result Stop NoMemory)
+    (p : IsPlanned records d h inside ws count was) (beside : IsBeside was now) (r : HaveRun W state d.plan h inside count (stream_job inside) now last ws stop)
+    (jobs : ℕ → List New) (made : HaveMade state d.plan h inside count r.cells r.jobs r.nodes jobs) (append : CanAppend d h ws count r.nodes jobs last)
     (places : List (ℕ × ℕ)) (merged : IsMerged (parts_of r.nodes count) places) (assembled : IsAssembled d.plan h r.nodes jobs places) where
   -- the history with what was made
   abbrev whole : List NodeEntry

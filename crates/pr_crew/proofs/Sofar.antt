@@ -31,6 +31,7 @@ use Rattle.pr_crew.specs.Jobs.{ClientDone, ClientFailed, IsWornAt}
 use Rattle.pr_crew.specs.Making.{HasFailed, HasMade, IsFaultFor, Makes, NodePass, node_with}
 use Rattle.pr_crew.specs.Acting.{nowhere}
 use Rattle.pr_crew.proofs.MadeMore.{made_more, made_still}
+use Rattle.pr_crew.proofs.Plain.{plain_append}
 
 -- ---- one line
 
@@ -69,10 +70,6 @@ of_line client n c needs after e mine is = absurd is
 
 pub news : (xs : List New) (x : New) → plain (reverse (xs ++ x ∷ [])) ≡ x.made ∷ plain (reverse xs)
 news xs x = ap plain (reverse-append xs (x ∷ []))
-
-pub plain_append : (xs ys : List New) → plain (xs ++ ys) ≡ plain xs ++ plain ys
-plain_append [] ys = refl
-plain_append (x ∷ xs) ys = ap (λ (es : List NodeEntry). x.made ∷ es) (plain_append xs ys)
 
 module _ (plan : Plan) (h : List NodeEntry) (n client k : ℕ) (p q : NodePass) (seen after : List ℕ) (xs : List New) (P : Entry → Type 0) (s : IsSofar plan h n client k p seen xs)
     (f : HasMade plan h n nowhere (λ c. seen) P p q) (command : Command) (is : IsOfClient client command n f.entry.event) (then : after ≡ seen_after f.entry.event client seen) (few : n < 32) where

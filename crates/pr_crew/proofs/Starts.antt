@@ -61,7 +61,7 @@ still_can_join now s mid x ((c, p, q, site, root, is, of), (c', p', q', site', r
 
 -- ---- passes
 
-same_since : (c : NodeCell) (p q : NodePass) → IsPassOf stories c p → IsPassOf stories c q → seen q.seat ≡ seen p.seat → since q.seat ≡ since p.seat
+pub same_since : (c : NodeCell) (p q : NodePass) → IsPassOf stories c p → IsPassOf stories c q → seen q.seat ≡ seen p.seat → since q.seat ≡ since p.seat
 same_since c p q of of' same =
     append_cancel_left p.seat.me.0.opening (since q.seat) (since p.seat) (ap (λ (l : List Story). l ++ since q.seat) (of.opening ∙ sym of'.opening) ∙ same)
 

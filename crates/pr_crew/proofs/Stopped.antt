@@ -22,6 +22,7 @@ use Rattle.pr_story.specs.Scripts.{ByTime, IsPhase, JobGives}
 use Rattle.pr_story.specs.Turns.{stream_time}
 use Rattle.pr_story.proofs.Short.{valid_short}
 use Rattle.pr_text.specs.Steps.{client_job, job_of, jobs_of, stream_job}
+use Rattle.pr_wires.specs.Calls.{WireState}
 use Rattle.pr_crew.specs.declared.task.ClientTask.{ClientTask}
 use Rattle.pr_crew.specs.declared.task.FlowTask.{FlowTask}
 use Rattle.pr_crew.specs.declared.task.Task.{Task}
@@ -48,8 +49,8 @@ each_stop : {W : Type 0} (P : Result Stop NoMemory → Type 0) (ts : List (Task 
 each_stop P [] each = All-nil P
 each_stop P (t ∷ ts) each = All-cons P (stop_of t) (map stop_of ts) (each 0 t refl) (each_stop P ts (λ k u is. each (suc k) u is))
 
-module _ {W : Type 0} (records : Declared → List NodeEntry → Type 0) (d : Declared) (h : List NodeEntry) (inside : List Numbered) (ws : List Work) (count : ℕ) (was now last : HeldState Stored) (stop : Result Stop NoMemory)
-    (p : IsPlanned records d h inside ws count was) (r : HaveRun W d.plan h inside count (stream_job inside) now last ws stop) (jobs : ℕ → List New) (made : HaveMade d.plan h inside count r.cells r.jobs r.nodes jobs)
+module _ {W : Type 0} {state : W → WireState} (records : Declared → List NodeEntry → Type 0) (d : Declared) (h : List NodeEntry) (inside : List Numbered) (ws : List Work) (count : ℕ) (was now last : HeldState Stored) (stop : Result Stop NoMemory)
+    (p : IsPlanned records d h inside ws count was) (r : HaveRun W state d.plan h inside count (stream_job inside) now last ws stop) (jobs : ℕ → List New) (made : HaveMade state d.plan h inside count r.cells r.jobs r.nodes jobs)
     (places : List (ℕ × ℕ)) (assembled : IsAssembled d.plan h r.nodes jobs places) where
   abbrev new : List NodeEntry
   new = reverse (made_at r.nodes places)

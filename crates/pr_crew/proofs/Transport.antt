@@ -199,7 +199,7 @@ module _ (all : List New) (jobs : ℕ → List New) (parts : (k : ℕ) → of_jo
 
   -- no stream and no client is in two jobs
   module _ (streams clients : ℕ → ℕ) (apart : (k : ℕ) → AreApart streams clients (jobs k)) where
-    stream_outside : (s k : ℕ) → streams s ≡ k → (x : New) → Contains all x → nat_eq x.job k ≡ false → is_of_stream x.made.entry.event s ≡ false
+    pub stream_outside : (s k : ℕ) → streams s ≡ k → (x : New) → Contains all x → nat_eq x.job k ≡ false → is_of_stream x.made.entry.event s ≡ false
     stream_outside s k is x has away = elim (bool_cases (is_of_stream x.made.entry.event s)) [
       | inl on ↦ (let bad : nat_eq x.job k ≡ true = (Decides-eqb x.job k).1 ((is_apart streams clients (jobs x.job) x (apart x.job) (in_job x has)).1 s on ∙ is) in absurd (cc))
       | inr off ↦ off

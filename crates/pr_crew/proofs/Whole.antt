@@ -25,6 +25,7 @@ use Rattle.pr_crew.specs.declared.work.ClientWork.{ClientWork}
 use Rattle.pr_crew.specs.declared.work.FlowWork.{FlowWork}
 use Rattle.pr_crew.specs.declared.work.Work.{Work}
 use Rattle.pr_crew.specs.declared.work.Work.TheVariants as works
+use Rattle.pr_crew.specs.Crossing.{AreClosed, JobCrosses}
 use Rattle.pr_crew.specs.Leaving.{HaveRun, IsLeft}
 use Rattle.pr_crew.specs.Making.{IsCellOf, NodeCell, NodePass}
 use Rattle.pr_crew.specs.Sites.{AreJoined, CanClose, IsBeside, IsClosed, IsSite}
@@ -102,7 +103,7 @@ module _ {W : Type 0} where
 
 module _ {W : Type 0} (state : W → WireState) (plan : Plan) (h : List NodeEntry) (count : ℕ) (inside : List Numbered) (owners : List Owner) (streams : ℕ → ℕ) (was now : HeldState Stored) (s0 s : Sites) (ws : List Work) (ts us : List (Task W))
     (can : CanStart plan h count inside owners streams was s0 ws) (started : HaveStarted state plan h count streams was now s ws (length ws) ts) (many : length us ≡ length ts)
-    (done : (k : ℕ) (u : Task W) → slice_get us k ≡ Some u → (xs : List New) × IsDone plan h inside s.cells.items k u xs)
+    (done : (k : ℕ) (u : Task W) → slice_get us k ≡ Some u → (xs : List New) × IsDone plan h inside s.cells.items k u xs × JobCrosses state u xs)
     (stay : (k : ℕ) (t u : Task W) → slice_get ts k ≡ Some t → slice_get us k ≡ Some u → StaysJob t u) where
   -- a job that ran is one that was planned
   planned : (k : ℕ) (u : Task W) → slice_get us k ≡ Some u → slice_get ws k ≡ Some (work_of u)
@@ -200,25 +201,29 @@ module _ {W : Type 0} (state : W → WireState) (plan : Plan) (h : List NodeEntr
         | inr le ↦ ([], λ lt. absurd (omega (arith, lt, le)), λ more. refl)
       ]
 
-      pub have_run : (stop : Result Stop NoMemory) → stop ≡ first_stop (map stop_of us) → HaveRun W plan h inside count streams was last ws stop
-      have_run stop is = record {
-        jobs = us;
-        works = all_works us ws as_many planned;
-        cells = s.cells.items;
-        nodes = λ n. (chosen n).0;
-        done = done;
-        in_turn = in_turn;
-        left = λ n lt. (chosen n).1 lt;
-        none = λ n le. (chosen n).2 le;
-        sessions = λ k u at. let t = flow_of k u at in record {
-          own = (can_end.flows k u at).own;
-          given = ap (λ (l : List (Option Remembered)). get_or l u.work.stream None) beside.sessions ∙ ended.given k u (slice_get_within us k (tasks.Flow u) at) at;
-          attached = λ x has. attached_still t.0.session u.session x t.3 (attached_before k t.0 t.1) has;
-        };
-        rest = λ s le. ap (λ (l : List (Option Remembered)). get_or l s None) beside.sessions ∙ ended.rest s le ∙ started.lent s (let e = as_many in omega (arith, le, e));
-        many_sessions = ap (λ (l : List (Option Remembered)). length l) beside.sessions ∙ ended.beside.sessions ∙ started.beside.sessions;
-        many_nodes = beside.nodes ∙ ap (λ (l : List (Option Stored)). length l) (ended.beside.nodes ∙ started.beside.nodes);
-        clients = beside.clients ∙ ended.beside.clients ∙ started.beside.clients;
-        places = beside.places ∙ ended.beside.places ∙ started.beside.places;
-        stop_is = is;
-      }
+      pub have_run : (stop : Result Stop NoMemory) → stop ≡ first_stop (map stop_of us) → (before after : Option (List (List ℕ))) → AreClosed state us before after
+          → (r : HaveRun W state plan h inside count streams was last ws stop) × AreClosed state r.jobs before after
+      have_run stop is before after wires = (
+        record {
+          jobs = us;
+          works = all_works us ws as_many planned;
+          cells = s.cells.items;
+          nodes = λ n. (chosen n).0;
+          done = done;
+          in_turn = in_turn;
+          left = λ n lt. (chosen n).1 lt;
+          none = λ n le. (chosen n).2 le;
+          sessions = λ k u at. let t = flow_of k u at in record {
+            own = (can_end.flows k u at).own;
+            given = ap (λ (l : List (Option Remembered)). get_or l u.work.stream None) beside.sessions ∙ ended.given k u (slice_get_within us k (tasks.Flow u) at) at;
+            attached = λ x has. attached_still t.0.session u.session x t.3 (attached_before k t.0 t.1) has;
+          };
+          rest = λ s le. ap (λ (l : List (Option Remembered)). get_or l s None) beside.sessions ∙ ended.rest s le ∙ started.lent s (let e = as_many in omega (arith, le, e));
+          many_sessions = ap (λ (l : List (Option Remembered)). length l) beside.sessions ∙ ended.beside.sessions ∙ started.beside.sessions;
+          many_nodes = beside.nodes ∙ ap (λ (l : List (Option Stored)). length l) (ended.beside.nodes ∙ started.beside.nodes);
+          clients = beside.clients ∙ ended.beside.clients ∙ started.beside.clients;
+          places = beside.places ∙ ended.beside.places ∙ started.beside.places;
+          stop_is = is;
+        },
+        wires,
+      )

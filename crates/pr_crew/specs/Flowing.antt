@@ -1,12 +1,16 @@
 -- A flow between the cells of its stream's nodes.
-use Rattle.std.specs.Prelude.{ℕ, List, [], ◌≡◌, Some, Result}
+use Rattle.std.specs.Prelude.{ℕ, List, [], ◌≡◌, Option, Some, Result}
+use Rattle.pr_flow.specs.Flows.{IsWhole}
 use Rattle.pr_flow.specs.declared.flow_end.FlowEnd.{FlowEnd}
 use Rattle.pr_inval.specs.declared.node_fault.NodeFault.{NodeFault}
 use Rattle.pr_inval.specs.Standing.{Remembered}
 use Rattle.pr_merge.specs.Holding.{IsSession}
 use Rattle.pr_story.specs.History.{NodeEntry, Plan}
-use Rattle.pr_story.specs.Merging.{New}
+use Rattle.pr_story.specs.Merging.{New, plain}
+use Rattle.pr_story.specs.Scripts.{events_of}
+use Rattle.pr_wires.specs.Calls.{WireState}
 use Rattle.pr_crew.specs.Acting.{AtCell}
+use Rattle.pr_crew.specs.Crossing.{HasCrossed}
 use Rattle.pr_crew.specs.Jobs.{FlowDone}
 use Rattle.pr_crew.specs.Making.{HasSeen, IsCellOf, IsSameCaller, NodePass}
 use Rattle.pr_crew.specs.Tasks.{AreSpelled}
@@ -37,3 +41,8 @@ pub record FlowEnds (plan : Plan) (h : List NodeEntry) (s turns k : ℕ) (a b x 
   pub made : List New
   pub done : FlowDone plan h s turns k source destination session end made
   pub spelled : AreSpelled made
+
+-- so it is, and what the flow took crossed its wire, if there is one and the flow was not cut off
+abbrev pub FlowEndsOver : {W : Type 0} → (W → WireState) → Option W → Plan → List NodeEntry → ℕ → ℕ → ℕ → AtCell → AtCell → AtCell → AtCell → Remembered → Result FlowEnd NodeFault → Type 0
+FlowEndsOver state wire plan h s turns k a b x y session end =
+    (f : FlowEnds plan h s turns k a b x y session end) × (IsWhole end → HasCrossed state wire s (events_of (plain f.made)))

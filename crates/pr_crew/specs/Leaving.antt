@@ -14,6 +14,8 @@ use Rattle.pr_crew.specs.declared.task.FlowTask.{FlowTask}
 use Rattle.pr_crew.specs.declared.task.Task.{Task}
 use Rattle.pr_crew.specs.declared.task.Task.TheVariants as tasks
 use Rattle.pr_crew.specs.declared.work.Work.{Work}
+use Rattle.pr_wires.specs.Calls.{WireState}
+use Rattle.pr_crew.specs.Crossing.{JobCrosses}
 use Rattle.pr_crew.specs.Making.{IsCellOf, NodeCell, NodePass}
 use Rattle.pr_crew.specs.Sites.{AreJoined, IsClosed}
 use Rattle.pr_crew.specs.Tasks.{IsDone, first_stop, numbers_of, passes_at, stop_of, work_of}
@@ -36,12 +38,12 @@ pub record IsGivenBack {W : Type 0} (streams : ℕ → ℕ) (now : HeldState Sto
   pub attached : (x : Remembered) → t.session ≡ Some x → IsTrue x.attached
 
 -- in a phase of these lines that began after h, all jobs ran that work on this; the phase stops so
-pub record HaveRun (W : Type 0) (plan : Plan) (h : List NodeEntry) (inside : List Numbered) (count : ℕ) (streams : ℕ → ℕ) (was now : HeldState Stored) (ws : List Work) (stop : Result Stop NoMemory) : Type 0 where
+pub record HaveRun (W : Type 0) (state : W → WireState) (plan : Plan) (h : List NodeEntry) (inside : List Numbered) (count : ℕ) (streams : ℕ → ℕ) (was now : HeldState Stored) (ws : List Work) (stop : Result Stop NoMemory) : Type 0 where
   pub jobs : List (Task W)
   pub works : map work_of jobs ≡ ws
   pub cells : List NodeCell
   pub nodes : ℕ → List Entry
-  pub done : (k : ℕ) (t : Task W) → slice_get jobs k ≡ Some t → (xs : List New) × IsDone plan h inside cells k t xs
+  pub done : (k : ℕ) (t : Task W) → slice_get jobs k ≡ Some t → (xs : List New) × IsDone plan h inside cells k t xs × JobCrosses state t xs
   pub in_turn : (n : ℕ) → n < count → numbers_of (passes_at jobs n) ≡ range_with_len 1 (length (passes_at jobs n))
   pub left : (n : ℕ) → n < count → (x : IsLeft plan h cells jobs n (nodes n)) × (get_or now.nodes n None ≡ Some x.node)
   pub none : (n : ℕ) → count ≤ n → nodes n ≡ []

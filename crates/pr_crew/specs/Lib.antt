@@ -14,3 +14,5 @@ pub mod Phases
 pub mod Starting
 pub mod Rooms
 pub mod Leaving
+pub mod Crossing
+pub mod Carrying

@@ -8,7 +8,7 @@ use Rattle.pr_node.specs.Stored.{Stored}
 use Rattle.pr_script.specs.declared.owner.Owner.{Owner}
 use Rattle.pr_script.specs.Steps.{Numbered}
 use Rattle.pr_story.specs.History.{NodeEntry, Plan}
-use Rattle.pr_wires.specs.Calls.{WireState}
+use Rattle.pr_wires.specs.Calls.{IsUnused, WireState}
 use Rattle.pr_crew.specs.declared.sites.Sites.{Sites}
 use Rattle.pr_crew.specs.declared.task.ClientTask.{ClientTask}
 use Rattle.pr_crew.specs.declared.task.FlowTask.{FlowTask}
@@ -83,7 +83,7 @@ StartsOne state was now s t (works.Flow w) (tasks.Flow x) =
     (x.work ≡ w) × ((mid : Sites) × Splits s mid w.source x.source × Splits mid t w.destination x.destination)
     × (x.session ≡ get_or was.sessions w.stream None)
     × (now ≡ record { nodes = was.nodes; sessions = slice_set was.sessions w.stream None; clients = was.clients; places = was.places })
-    × IfSome x.wire (λ y. (state y).under ≡ 0)
+    × IfSome x.wire (λ y. IsUnused (state y))
 StartsOne state was now s t w x = ⊥
 
 -- ---- the jobs that ended

@@ -20,13 +20,14 @@ use Rattle.pr_story.specs.Clients.{client_node, client_vector}
 use Rattle.pr_story.specs.History.{NodeEntry, Plan}
 use Rattle.pr_story.specs.Merging.{New}
 use Rattle.pr_text.specs.Steps.{job_of}
-use Rattle.pr_wires.specs.Calls.{WireState}
+use Rattle.pr_wires.specs.Calls.{IsUnused, WireState}
 use Rattle.pr_crew.specs.declared.task.ClientTask.{ClientTask}
 use Rattle.pr_crew.specs.declared.task.FlowTask.{FlowTask}
 use Rattle.pr_crew.specs.declared.task.Task.{Task}
 use Rattle.pr_crew.specs.declared.task.Task.TheVariants as tasks
 use Rattle.pr_crew.specs.declared.work.Work.{Work}
 use Rattle.pr_crew.specs.declared.work.Work.TheVariants as works
+use Rattle.pr_crew.specs.Crossing.{JobCrosses}
 use Rattle.pr_crew.specs.Jobs.{ClientDone, FlowDone}
 use Rattle.pr_crew.specs.Making.{HasSeen, IsCellOf, NodeCell, NodePass}
 use Rattle.pr_crew.specs.Stories.{stories}
@@ -95,7 +96,7 @@ module _ (plan : Plan) (h : List NodeEntry) (cells : List NodeCell) where
     pub has : t.session ≡ Some session
     pub stands : IsSession plan h t.work.stream session
     pub attached : IsTrue session.attached
-    pub unused : IfSome t.wire (λ w. (state w).under ≡ 0)
+    pub unused : IfSome t.wire (λ w. IsUnused (state w))
 
   abbrev pub IsReady : {W : Type 0} → (W → WireState) → Task W → Type 0
   IsReady state (tasks.Client t) = IsReadyClient t
@@ -160,14 +161,19 @@ StaysJob t u = ⊥
 
 -- ---- a job's run
 
+-- the wire of a flow's job, if there is one, is sound
+abbrev pub HasSoundWire : {W : Type 0} → (W → WireState) → Task W → Type 0
+HasSoundWire state (tasks.Client t) = Unit {0}
+HasSoundWire state (tasks.Flow t) = IfSome t.wire (λ w. IsTrue (state w).sound)
+
 -- the flow took no other bytes than were put
-abbrev pub IsNoLie : Result FlowEnd NodeFault → Type 0
-IsNoLie (Ok (ends.Lied number sent got)) = ⊥
-IsNoLie end = Unit {0}
+abbrev pub IsHonestEnd : Result FlowEnd NodeFault → Type 0
+IsHonestEnd (Ok (ends.Lied number sent got)) = ⊥
+IsHonestEnd end = Unit {0}
 
 -- where the wire of a flow's job was sound, the flow took no other bytes than were put
 abbrev pub IsHonest : {W : Type 0} → (W → WireState) → Task W → Task W → Type 0
-IsHonest state (tasks.Flow t) (tasks.Flow u) = IfSome t.wire (λ w. IsTrue (state w).sound) → IsNoLie u.end
+IsHonest state (tasks.Flow t) (tasks.Flow u) = IfSome t.wire (λ w. IsTrue (state w).sound) → IsHonestEnd u.end
 IsHonest state t u = Unit {0}
 
 module _ {W : Type 0} (state : W → WireState) (cells : List NodeCell) where
@@ -177,7 +183,7 @@ module _ {W : Type 0} (state : W → WireState) (cells : List NodeCell) where
 
   -- what is so of a job before and after it ran
   pub record HasRun (inside : List Numbered) (t u : Task W) : Type 0 where
-    pub done : (plan : Plan) (h : List NodeEntry) (k : ℕ) → IsReady plan h cells state t → (xs : List New) × IsDone plan h inside cells k u xs
+    pub done : (plan : Plan) (h : List NodeEntry) (k : ℕ) → IsReady plan h cells state t → (xs : List New) × IsDone plan h inside cells k u xs × JobCrosses state u xs
     pub stays : StaysJob t u
     pub honest : IsHonest state t u
 

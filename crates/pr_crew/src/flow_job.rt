@@ -1,12 +1,13 @@
 // A flow's job.
 ghost use Rattle.pr_crew.specs.Acting.{acts, made_through};
-ghost use Rattle.pr_crew.specs.Flowing.{FlowBegins, FlowEnds};
+ghost use Rattle.pr_crew.specs.Flowing.{FlowBegins, FlowEndsOver};
 ghost use Rattle.pr_flow.specs.Calls.{IsKept};
 ghost use Rattle.pr_flow.specs.Ending.{EndsByWire};
 ghost use Rattle.pr_flow.specs.Flows.{Flows, Sides};
 ghost use Rattle.pr_inval.specs.Standing.{means};
 ghost use Rattle.pr_story.specs.History.{NodeEntry, Plan};
-ghost use Rattle.std.specs.Prelude.{ℕ, List, ◌≡◌, IsTrue};
+ghost use Rattle.pr_wires.specs.Calls.{IsUnused};
+ghost use Rattle.std.specs.Prelude.{ℕ, List, IsTrue, Some};
 
 use crate::Gate;
 use crate::cell_side::CellSide;
@@ -30,9 +31,9 @@ pub(crate) fn flow_job<R: Wait, G: Gate, W: Wire>(
     wire: &mut W,
 ) -> Result<FlowEnd, NodeFault>
     requires attached { IsTrue (means session.old).attached }
-    requires under { (W.state wire.old).under ≡ 0 }
+    requires unused { IsUnused (W.state wire.old) }
     ensures flowed { Flows made_through acts made_through acts (means session.old).stream turns (record { source = source.old; destination = dest.old; session = means session.old }) (record { source = source.new; destination = dest.new; session = means session.new }) (W.state wire.old).given (W.state wire.new).given (W.state wire.old).taken (W.state wire.new).taken result }
-    ensures done { (plan : Plan) (h : List NodeEntry) (s k : ℕ) → FlowBegins plan h s source.old dest.old session.old → FlowEnds plan h s turns k source.old dest.old source.new dest.new session.new result }
+    ensures done { (plan : Plan) (h : List NodeEntry) (s k : ℕ) → FlowBegins plan h s source.old dest.old session.old → FlowEndsOver W.state (Some wire.new) plan h s turns k source.old dest.old source.new dest.new session.new result }
     ensures session { IsKept (means session.old) (means session.new) }
     ensures wire { EndsByWire (W.state wire.old) (W.state wire.new) result }
 {

@@ -1,15 +1,18 @@
 // A phase whose jobs run beside each other.
 ghost use Rattle.pr_crew.specs.Asking.{IsShort};
+ghost use Rattle.pr_crew.specs.Carrying.{PhaseCarries};
+ghost use Rattle.pr_crew.specs.Crossing.{AreClosed, JobCrosses};
 ghost use Rattle.pr_crew.specs.Leaving.{HaveRun};
 ghost use Rattle.pr_crew.specs.Phases.{AllWork, AreDistinct, CanRunPhase, IsOut, IsPlanned, LeavesPhase, RepresentsNodes, SameAttached};
 ghost use Rattle.pr_crew.specs.Rooms.{HasRoomFor, KnowsOpening, total_at};
 ghost use Rattle.pr_merge.specs.Holding.{HeldState};
 ghost use Rattle.pr_crew.specs.Starting.{CanStart};
-ghost use Rattle.pr_crew.specs.Tasks.{IsDone, IsReady, StaysJob};
+ghost use Rattle.pr_crew.specs.Tasks.{IsDone, IsHonest, IsReady, StaysJob};
 ghost use Rattle.pr_crew.specs.declared.task.Task.{Task};
 ghost use Rattle.pr_story.specs.Merging.{New};
 ghost use Rattle.pr_merge.specs.Holding.{AreAllHere};
 ghost use Rattle.pr_node.specs.Stored.{Stored};
+ghost use Rattle.pr_flow.specs.Lies.{IsNoLie};
 ghost use Rattle.pr_flow.specs.declared.stop.Stop.TheVariants as stops;
 ghost use Rattle.pr_script.specs.declared.owner.Owner.{Owner};
 ghost use Rattle.pr_story.specs.Counts.{Declared};
@@ -59,6 +62,8 @@ pub fn phase<R: Threads + Wait + Sync, H: Held<Node = Node>, W: Wires, G: Gate>(
     ensures out { W.out wires.new ≡ W.out wires.old }
     ensures faults { W.faults wires.old ≤ W.faults wires.new }
     ensures sound { W.sound wires.new ≡ W.sound wires.old }
+    ensures no_lie { ((k : ℕ) → IsTrue (W.sound wires.old k)) → IsNoLie result }
+    ensures carried { (d : Declared) (h : List NodeEntry) → RepresentsNodes (H.records held.old) d h (H.state held.old) → PhaseCarries (H.records held.new) d h inside.now (H.state held.new) (W.carried wires.old) (W.carried wires.new) result }
 {
     let owners = owners(alloc, inside)?;
     let works = plan(alloc, held, owners.as_slice(), inside)?;
@@ -102,6 +107,8 @@ fn over_cells<R: Threads + Wait + Sync, H: Held<Node = Node>, W: Wires, G: Gate>
     ensures out { W.out wires.new ≡ W.out wires.old }
     ensures faults { W.faults wires.old ≤ W.faults wires.new }
     ensures sound { W.sound wires.new ≡ W.sound wires.old }
+    ensures no_lie { ((k : ℕ) → IsTrue (W.sound wires.old k)) → IsNoLie result }
+    ensures carried { (d : Declared) (h : List NodeEntry) → IsPlanned (H.records held.old) d h inside.now works.now count (H.state held.old) → PhaseCarries (H.records held.new) d h inside.now (H.state held.new) (W.carried wires.old) (W.carried wires.new) result }
 {
     let sites = Sites::open(alloc, held, count, works.len() as u32 + 1)?;
     match Vec::with_capacity(alloc, works.len()) {
@@ -142,6 +149,8 @@ fn in_room<R: Threads + Wait + Sync, H: Held<Node = Node>, W: Wires, G: Gate>(
     ensures out { W.out wires.new ≡ W.out wires.old }
     ensures faults { W.faults wires.old ≤ W.faults wires.new }
     ensures sound { W.sound wires.new ≡ W.sound wires.old }
+    ensures no_lie { ((k : ℕ) → IsTrue (W.sound wires.old k)) → IsNoLie result }
+    ensures carried { (d : Declared) (h : List NodeEntry) (was : HeldState Stored) → IsOut (H.records held.old) d h inside.now works.now sites was (H.state held.old) → KnowsOpening h (length sites.cells.items) room → PhaseCarries (H.records held.new) d h inside.now (H.state held.new) (W.carried wires.old) (W.carried wires.new) result }
 {
     let stop = run(rt, alloc, held, wires, gate, works, inside, sites, tasks);
     room.append(held);
@@ -167,13 +176,14 @@ fn run<R: Threads + Wait + Sync, H: Held<Node = Node>, W: Wires, G: Gate>(
     requires empty { tasks.items ≡ [] }
     requires room { length works.now ≤ vec_capacity tasks }
     requires few { W.made wires.old + length works.now ≤ 2 ^ 40 }
-    ensures ran { (plan : Plan) (h : List NodeEntry) (owners : List Owner) (streams : ℕ → ℕ) → CanStart plan h (length sites.cells.items) inside.now owners streams (H.state held.old) sites works.now → HaveRun W.Wire plan h inside.now (length sites.cells.items) streams (H.state held.old) (H.state held.new) works.now result }
+    ensures ran { (plan : Plan) (h : List NodeEntry) (owners : List Owner) (streams : ℕ → ℕ) → CanStart plan h (length sites.cells.items) inside.now owners streams (H.state held.old) sites works.now → (r : HaveRun W.Wire W.Wire.state plan h inside.now (length sites.cells.items) streams (H.state held.old) (H.state held.new) works.now result) × AreClosed W.Wire.state r.jobs (W.carried wires.old) (W.carried wires.new) }
     ensures records { (d : Declared) (h : List NodeEntry) → H.records held.old d h → H.records held.new d h }
     ensures places { (n : ℕ) → H.has_room held.old n → H.has_room held.new n }
     ensures made { W.made wires.new ≤ W.made wires.old + length works.now }
     ensures out { W.out wires.new ≡ W.out wires.old }
     ensures faults { W.faults wires.old ≤ W.faults wires.new }
     ensures sound { W.sound wires.new ≡ W.sound wires.old }
+    ensures no_lie { ((k : ℕ) → IsTrue (W.sound wires.old k)) → IsNoLie result }
 {
     start(held, wires, &mut sites, works, &mut tasks);
     run_jobs(rt, gate, alloc, sites.cells.as_slice(), inside, &mut tasks);
@@ -193,8 +203,9 @@ fn run_jobs<R: Threads + Wait + Sync, G: Gate, W: Wire + Send>(
     requires ready { (plan : Plan) × (h : List NodeEntry) × ((k : ℕ) (t : Task W) → slice_get tasks.old.items k ≡ Some t → IsReady plan h cells.now W.state t) }
     requires lines { (length inside.now ≤ 100000) × AllByRecursion (λ line. IsShort line.1) inside.now }
     ensures many { length tasks.new.items ≡ length tasks.old.items }
-    ensures done { (plan : Plan) (h : List NodeEntry) → ((k : ℕ) (t : Task W) → slice_get tasks.old.items k ≡ Some t → IsReady plan h cells.now W.state t) → (k : ℕ) (u : Task W) → slice_get tasks.new.items k ≡ Some u → (xs : List New) × IsDone plan h inside.now cells.now k u xs }
+    ensures done { (plan : Plan) (h : List NodeEntry) → ((k : ℕ) (t : Task W) → slice_get tasks.old.items k ≡ Some t → IsReady plan h cells.now W.state t) → (k : ℕ) (u : Task W) → slice_get tasks.new.items k ≡ Some u → (xs : List New) × IsDone plan h inside.now cells.now k u xs × JobCrosses W.state u xs }
     ensures stay { (k : ℕ) (t u : Task W) → slice_get tasks.old.items k ≡ Some t → slice_get tasks.new.items k ≡ Some u → StaysJob t u }
+    ensures honest { (k : ℕ) (t u : Task W) → slice_get tasks.old.items k ≡ Some t → slice_get tasks.new.items k ≡ Some u → IsHonest W.state t u }
 {
     run_all(rt, gate, alloc, cells, inside, tasks.as_mut_slice());
 }

@@ -1,16 +1,22 @@
 // The jobs of a phase, each in a thread of its own.
 ghost use Rattle.pr_crew.specs.Acting.{AtCell};
 ghost use Rattle.pr_crew.specs.Asking.{IsShort};
-ghost use Rattle.pr_crew.specs.Flowing.{FlowBegins, FlowEnds};
-ghost use Rattle.pr_crew.specs.Tasks.{CanRun, HasRun, IsDone, IsDoneClient, IsDoneFlow, IsHonest, IsNoLie, IsReady, IsReadyClient, IsReadyFlow, IsSamePass, IsSameStream, StaysJob, count_of};
+ghost use Rattle.pr_crew.specs.Crossing.{FlowCrosses, JobCrosses};
+ghost use Rattle.pr_crew.specs.Flowing.{FlowBegins, FlowEnds, FlowEndsOver};
+ghost use Rattle.pr_crew.specs.Tasks.{CanRun, HasRun, IsDone, IsDoneClient, IsDoneFlow, IsHonest, IsHonestEnd, IsReady, IsReadyClient, IsReadyFlow, IsSamePass, IsSameStream, StaysJob, count_of};
 ghost use Rattle.pr_crew.specs.declared.task.Task.{Task};
 ghost use Rattle.pr_flow.specs.Calls.{IsKept};
+ghost use Rattle.pr_flow.specs.Flows.{IsWhole};
 ghost use Rattle.pr_script.specs.Steps.{Numbered};
 ghost use Rattle.pr_inval.specs.Standing.{means};
 ghost use Rattle.pr_story.specs.History.{NodeEntry, Plan};
-ghost use Rattle.pr_story.specs.Merging.{New};
+ghost use Rattle.pr_story.specs.Merging.{New, plain};
+ghost use Rattle.pr_story.specs.Scripts.{events_of};
+ghost use Rattle.pr_story.specs.declared.cause.Cause.TheVariants.{Failed};
+ghost use Rattle.pr_story.specs.declared.event.Event.TheVariants.{Down};
+ghost use Rattle.pr_wires.specs.Calls.{IsUnused};
 ghost use Rattle.std.specs.List.{AllByRecursion};
-ghost use Rattle.std.specs.Prelude.{◌≡◌, ◌≤◌, ℕ, List, IfSome, IsTrue, length, slice_get, Some};
+ghost use Rattle.std.specs.Prelude.{◌≡◌, ◌≤◌, [], ◌∷◌, ℕ, List, IfSome, IsTrue, length, slice_get, Some};
 
 use crate::cell_side::CellSide;
 use crate::client_job::client_job;
@@ -41,7 +47,7 @@ pub(crate) fn run_all<R: Threads + Wait + Sync, G: Gate, W: Wire + Send>(
     requires ready { (plan : Plan) × (h : List NodeEntry) × ((k : ℕ) (t : Task W) → slice_get tasks.old k ≡ Some t → IsReady plan h cells.now W.state t) }
     requires lines { (length inside.now ≤ 100000) × AllByRecursion (λ line. IsShort line.1) inside.now }
     ensures many { length tasks.new ≡ length tasks.old }
-    ensures done { (plan : Plan) (h : List NodeEntry) → ((k : ℕ) (t : Task W) → slice_get tasks.old k ≡ Some t → IsReady plan h cells.now W.state t) → (k : ℕ) (u : Task W) → slice_get tasks.new k ≡ Some u → (xs : List New) × IsDone plan h inside.now cells.now k u xs }
+    ensures done { (plan : Plan) (h : List NodeEntry) → ((k : ℕ) (t : Task W) → slice_get tasks.old k ≡ Some t → IsReady plan h cells.now W.state t) → (k : ℕ) (u : Task W) → slice_get tasks.new k ≡ Some u → (xs : List New) × IsDone plan h inside.now cells.now k u xs × JobCrosses W.state u xs }
     ensures stay { (k : ℕ) (t u : Task W) → slice_get tasks.old k ≡ Some t → slice_get tasks.new k ≡ Some u → StaysJob t u }
     ensures sound { (k : ℕ) (t u : Task W) → slice_get tasks.old k ≡ Some t → slice_get tasks.new k ≡ Some u → IsHonest W.state t u }
 {
@@ -109,12 +115,12 @@ fn run_flow<R: Wait, G: Gate, W: Wire>(
     task: &mut FlowTask<W>,
 )
     requires ready { (plan : Plan) × (h : List NodeEntry) × IsReadyFlow plan h cells.now W.state task.old }
-    ensures done { (plan : Plan) (h : List NodeEntry) (inside : List Numbered) (k : ℕ) → IsReadyFlow plan h cells.now W.state task.old → (xs : List New) × IsDoneFlow plan h inside cells.now k task.new xs }
+    ensures done { (plan : Plan) (h : List NodeEntry) (inside : List Numbered) (k : ℕ) → IsReadyFlow plan h cells.now W.state task.old → (xs : List New) × IsDoneFlow plan h inside cells.now k task.new xs × FlowCrosses W.state task.new xs }
     ensures work { task.new.work ≡ task.old.work }
     ensures passes { IsSamePass task.old.source task.new.source × IsSamePass task.old.destination task.new.destination }
     ensures session { IsSameStream task.old.session task.new.session }
     ensures wire { count_of task.new.wire ≡ count_of task.old.wire }
-    ensures sound { IfSome task.old.wire (λ w. IsTrue (W.state w).sound) → IsNoLie task.new.end }
+    ensures sound { IfSome task.old.wire (λ w. IsTrue (W.state w).sound) → IsHonestEnd task.new.end }
 {
     let (Some(from), Some(to), Some(mut session)) = (
         task.source.take(),
@@ -142,8 +148,8 @@ fn run_flow<R: Wait, G: Gate, W: Wire>(
     task.session = Some(session);
 }
 
-// Makes the turns of a flow over its wire, if it has one.
-fn drive<R: Wait, G: Gate, W: Wire>(
+/// Makes the turns of a flow over its wire, if it has one.
+pub(crate) fn drive<R: Wait, G: Gate, W: Wire>(
     rt: &R,
     gate: &G,
     alloc: Global,
@@ -154,11 +160,11 @@ fn drive<R: Wait, G: Gate, W: Wire>(
     wire: &mut Option<W>,
 ) -> Result<FlowEnd, NodeFault>
     requires attached { IsTrue (means session.old).attached }
-    requires under { IfSome wire.old (λ w. (W.state w).under ≡ 0) }
-    ensures done { (plan : Plan) (h : List NodeEntry) (s k : ℕ) → FlowBegins plan h s source.old destination.old session.old → FlowEnds plan h s work.now.turns k source.old destination.old source.new destination.new session.new result }
+    requires unused { IfSome wire.old (λ w. IsUnused (W.state w)) }
+    ensures done { (plan : Plan) (h : List NodeEntry) (s k : ℕ) → FlowBegins plan h s source.old destination.old session.old → FlowEndsOver W.state wire.new plan h s work.now.turns k source.old destination.old source.new destination.new session.new result }
     ensures session { IsKept (means session.old) (means session.new) }
     ensures wire { count_of wire.new ≡ count_of wire.old }
-    ensures sound { IfSome wire.old (λ w. IsTrue (W.state w).sound) → IsNoLie result }
+    ensures sound { IfSome wire.old (λ w. IsTrue (W.state w).sound) → IsHonestEnd result }
 {
     match wire {
         Some(wire) => flow_job(
@@ -185,9 +191,9 @@ fn unconnected<R: Wait, G: Gate>(
     session: &mut Session,
 ) -> Result<FlowEnd, NodeFault>
     requires attached { IsTrue (means session.old).attached }
-    ensures done { (plan : Plan) (h : List NodeEntry) (s turns k : ℕ) (source : AtCell) → FlowBegins plan h s source destination.old session.old → FlowEnds plan h s turns k source destination.old source destination.new session.new result }
+    ensures done { (plan : Plan) (h : List NodeEntry) (s turns k : ℕ) (source : AtCell) → FlowBegins plan h s source destination.old session.old → (f : FlowEnds plan h s turns k source destination.old source destination.new session.new result) × (IsWhole result → events_of (plain f.made) ≡ Down s Failed ∷ []) }
     ensures session { IsKept (means session.old) (means session.new) }
-    ensures sound { IsNoLie result }
+    ensures sound { IsHonestEnd result }
 {
     gate.reached(rt, line);
     destination.down(session, Cause::Failed)?;

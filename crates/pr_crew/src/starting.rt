@@ -1,12 +1,14 @@
 // Jobs get what they work with before they run, and give it back afterwards.
+ghost use Rattle.pr_crew.specs.Crossing.{AreClosed, ClosesJob, IsClosed};
 ghost use Rattle.pr_crew.specs.Starting.{CanEnd, CanEndOne, CanStart, CanStartOne, EndsOne, HaveEnded, HaveStarted, StartsOne};
-ghost use Rattle.pr_crew.specs.Tasks.{count_of, first_of_two, first_stop, stop_of, stop_of_client, stop_of_fault, stop_of_flow, wires_of};
+ghost use Rattle.pr_crew.specs.Tasks.{HasSoundWire, count_of, first_of_two, first_stop, stop_of, stop_of_client, stop_of_fault, stop_of_flow, wires_of};
 ghost use Rattle.pr_inval.specs.Standing.{Remembered};
 ghost use Rattle.pr_script.specs.Steps.{Numbered};
 ghost use Rattle.pr_script.specs.declared.owner.Owner.{Owner};
 ghost use Rattle.pr_story.specs.Counts.{Declared};
 ghost use Rattle.pr_story.specs.History.{NodeEntry, Plan};
-ghost use Rattle.std.specs.Prelude.{◌≡◌, ◌<◌, ◌≤◌, ◌+◌, ◌^◌, ◌++◌, [], ◌∷◌, ℕ, IfSome, List, None, Some, get_or, length, map, slice_set, sum_by, vec_capacity, vec_len};
+ghost use Rattle.pr_wires.specs.Calls.{IsUnused};
+ghost use Rattle.std.specs.Prelude.{◌≡◌, ◌<◌, ◌≤◌, ◌+◌, ◌^◌, ◌++◌, [], ◌∷◌, ℕ, All, IfSome, IsTrue, List, None, Some, get_or, length, map, slice_set, sum_by, vec_capacity, vec_len};
 
 use crate::sites::Sites;
 use crate::task::{ClientTask, FlowTask, Task};
@@ -38,6 +40,8 @@ pub(crate) fn start<H: Held<Node = Node>, W: Wires>(
     ensures out { W.out wires.new ≡ W.out wires.old + sum_by wires_of tasks.new.items }
     ensures faults { W.faults wires.old ≤ W.faults wires.new }
     ensures sound { W.sound wires.new ≡ W.sound wires.old }
+    ensures carried { W.carried wires.new ≡ W.carried wires.old }
+    ensures sound_wires { ((k : ℕ) → IsTrue (W.sound wires.old k)) → All (HasSoundWire W.Wire.state) tasks.new.items }
 {
     for work in works {
         add(tasks, start_one(held, wires, sites, work));
@@ -72,6 +76,8 @@ fn start_one<H: Held<Node = Node>, W: Wires>(
     ensures out { W.out wires.new ≡ W.out wires.old + wires_of result }
     ensures faults { W.faults wires.old ≤ W.faults wires.new }
     ensures sound { W.sound wires.new ≡ W.sound wires.old }
+    ensures carried { W.carried wires.new ≡ W.carried wires.old }
+    ensures sound_wire { IsTrue (W.sound wires.old (W.made wires.old + 1)) → HasSoundWire W.Wire.state result }
 {
     match *work {
         Work::Client(work) => Task::Client(ClientTask {
@@ -93,11 +99,13 @@ fn start_one<H: Held<Node = Node>, W: Wires>(
 // A wire for a flow, if there is a connection.
 fn connect<W: Wires>(wires: &mut W, from: u32, to: u32) -> Option<W::Wire>
     requires { W.made wires.old < 2 ^ 40 }
-    ensures unused { IfSome result (λ w. (W.Wire.state w).under ≡ 0) }
+    ensures unused { IfSome result (λ w. IsUnused (W.Wire.state w)) }
     ensures made { W.made wires.new ≡ W.made wires.old + 1 }
     ensures out { W.out wires.new ≡ W.out wires.old + count_of result }
     ensures faults { W.faults wires.old ≤ W.faults wires.new }
     ensures sound { W.sound wires.new ≡ W.sound wires.old }
+    ensures carried { W.carried wires.new ≡ W.carried wires.old }
+    ensures sound_wire { IsTrue (W.sound wires.old (W.made wires.old + 1)) → IfSome result (λ w. IsTrue (W.Wire.state w).sound) }
 {
     match wires.connect(from, to) {
         Ok(wire) => Some(wire),
@@ -121,6 +129,7 @@ pub(crate) fn end<H: Held<Node = Node>, W: Wires>(
     ensures room { (n : ℕ) → H.has_room held.old n → H.has_room held.new n }
     ensures out { W.out wires.new + sum_by wires_of tasks.items ≡ W.out wires.old }
     ensures same { (W.made wires.new ≡ W.made wires.old) × (W.sound wires.new ≡ W.sound wires.old) × (W.faults wires.new ≡ W.faults wires.old) }
+    ensures carried { AreClosed W.Wire.state tasks.items (W.carried wires.old) (W.carried wires.new) }
 {
     let mut stop = Ok(Stop::Went);
     tasks.reverse();
@@ -157,6 +166,7 @@ fn end_one<H: Held<Node = Node>, W: Wires>(
     ensures room { (n : ℕ) → H.has_room held.old n → H.has_room held.new n }
     ensures out { W.out wires.new + wires_of task ≡ W.out wires.old }
     ensures same { (W.made wires.new ≡ W.made wires.old) × (W.sound wires.new ≡ W.sound wires.old) × (W.faults wires.new ≡ W.faults wires.old) }
+    ensures carried { ClosesJob W.Wire.state task (W.carried wires.old) (W.carried wires.new) }
 {
     match task {
         Task::Client(ClientTask { work, pass, end }) => {
@@ -199,6 +209,7 @@ fn close<W: Wires>(wires: &mut W, wire: Option<W::Wire>)
     requires { count_of wire ≤ W.out wires.old }
     ensures out { W.out wires.new + count_of wire ≡ W.out wires.old }
     ensures same { (W.made wires.new ≡ W.made wires.old) × (W.sound wires.new ≡ W.sound wires.old) × (W.faults wires.new ≡ W.faults wires.old) }
+    ensures carried { IsClosed W.Wire.state wire (W.carried wires.old) (W.carried wires.new) }
 {
     if let Some(wire) = wire {
         wires.close(wire);

@@ -1,3 +1,8 @@
+mod bending;
+mod cells;
+mod meeting;
+mod refusing;
+
 ghost use Rattle.pr_crew.specs.Asking.{IsShort};
 ghost use Rattle.std.specs.List.{AllByRecursion};
 ghost use Rattle.std.specs.Prelude.{◌≡◌, IfOk, length};

@@ -4,3 +4,4 @@ pub mod Flows
 pub mod Taking
 pub mod Ending
 pub mod Lies
+pub mod Crossing

@@ -297,8 +297,9 @@ fn a_stop_leaves_the_entries_that_were_kept(rt: HostRuntime) -> Result<(), Fail>
         Some(2),
     ];
     for (stop, entries) in found.iter().enumerate() {
-        let disk = kept_until(alloc, stop as u64).image();
-        assert_eq!(rt; entries_of(alloc, disk), *entries);
+        let disk = kept_until(alloc, stop as u64);
+        assert_eq!(rt; disk.good(), stop as u64);
+        assert_eq!(rt; entries_of(alloc, disk.image()), *entries);
     }
     Ok(())
 }

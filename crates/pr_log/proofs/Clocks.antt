@@ -1,5 +1,5 @@
 -- The order of clocks as keys of a map.
-use Rattle.std.proofs.Common.{◌≡◌, ℕ, ◌≤◌, ◌<◌, Option, None, Some, true, false, cond, refl, ◌∙◌, ap, arith, nat_eq}
+use Rattle.std.proofs.Common.{◌≡◌, ℕ, ◌≤◌, ◌<◌, Option, None, Some, Bool, true, false, cond, refl, ◌∙◌, ap, arith, nat_eq}
 use Rattle.std.specs.Prelude.{◌⊎◌}
 use Rattle.std.specs.Option.{IsSome}
 use Rattle.std.specs.declared.cmp.Ordering.TheVariants.{Less}
@@ -37,6 +37,13 @@ less_or a b = grind (arith, nat_tests)
 -- what is left where a key was taken out
 pub taken_out : {X : Type 0} (k q : ℕ) (f g : Option X) → g ≡ cond (is_eq (nat_cmp k q)) None f → ¬ (k ≡ q) → g ≡ f
 taken_out k q f g out other = out ∙ ap (λ b. cond b None f) (other_key k q other)
+
+pub out_or_none : {X : Type 0} (k q : ℕ) (f g : Option X) → g ≡ cond (is_eq (nat_cmp k q)) None f → f ≡ None → g ≡ None
+out_or_none {X = X} k q f g out none = out ∙ ap (λ r. cond (is_eq (nat_cmp k q)) None r) none ∙ either (is_eq (nat_cmp k q)) None
+  where
+    either : (b : Bool) (x : Option X) → cond b x x ≡ x
+    either true x = refl
+    either false x = refl
 
 -- what was put in at a key, and what was there at the others
 pub put_in : {X : Type 0} (k q : ℕ) (f g : Option X) (x : X) → g ≡ cond (is_eq (nat_cmp k q)) (Some x) f → ¬ (k ≡ q) → g ≡ f

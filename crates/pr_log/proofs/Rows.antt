@@ -1,10 +1,10 @@
 -- The writes of one node, by clock.
-use Rattle.std.proofs.Common.{◌≡◌, ℕ, List, Option, None, Some, Bool, true, false, cond, refl, ◌∙◌, ap, subst, arith, nat_eq}
+use Rattle.std.proofs.Common.{◌≡◌, ◌≤◌, ℕ, List, Option, None, Some, Bool, true, false, cond, refl, ◌∙◌, ap, subst, arith, nat_eq}
 use Rattle.std.specs.Option.{IsSome, is_some, option_or}
 use Rattle.std.specs.Ordering.{is_eq, nat_cmp}
 use Rattle.pr_inval.specs.declared.write_rec.WriteRec.{WriteRec}
-use Rattle.pr_log.specs.Known.{IsAddedAt, at_clock}
-use Rattle.pr_log.proofs.Clocks.{eq_nat}
+use Rattle.pr_log.specs.Known.{IsAddedAt, IsUpTo, at_clock}
+use Rattle.pr_log.proofs.Clocks.{eq_nat, put_in}
 
 -- a clock that has a write keeps it
 pub had : (row : List (ℕ × WriteRec)) (write : WriteRec) (clock : ℕ) → clock ≡ write.stamp.clock → IsSome (at_clock row clock) → IsAddedAt row row write
@@ -36,3 +36,8 @@ put a b write clock is in_ none c = in_ c ∙ ap (λ t. cond t (Some write) (at_
         some : true ≡ false → ⊥
         some e = cc
     place false x h = refl
+
+-- no write is past the last clock, or past the one that was put in
+pub put_up_to : (a b : List (ℕ × WriteRec)) (write : WriteRec) (clock last now : ℕ) → clock ≤ now → last ≤ now → ((c : ℕ) → at_clock b c ≡ cond (is_eq (nat_cmp clock c)) (Some write) (at_clock a c)) → IsUpTo last a → IsUpTo now b
+put_up_to a b write clock last now this all in_ up_to c past =
+    put_in clock c (at_clock a c) (at_clock b c) write (in_ c) (λ e. omega (arith, e, this, past)) ∙ up_to c (omega (arith, all, past))

@@ -28,6 +28,10 @@ pub record IsForgottenUpTo (clock : ℕ) (a b : List (ℕ × WriteRec)) : Type 0
   pub kept : (c : ℕ) → clock < c → at_clock b c ≡ at_clock a c
   pub few : (c : ℕ) → count_above b c ≤ count_above a c
 
+-- no write of the row is past the clock
+abbrev pub IsUpTo : ℕ → List (ℕ × WriteRec) → Type 0
+IsUpTo clock row = (c : ℕ) → clock < c → at_clock row c ≡ None
+
 -- the first write of the row above a clock
 abbrev pub IsFirstIn : List (ℕ × WriteRec) → ℕ → Option WriteRec → Type 0
 IsFirstIn row c None = (d : ℕ) → c < d → at_clock row d ≡ None

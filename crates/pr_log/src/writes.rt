@@ -2,7 +2,7 @@
 ghost use Rattle.pr_log.specs.Known.{IsAddedAt, IsFirstIn, IsForgottenUpTo, at_clock, count_above};
 ghost use Rattle.std.specs.BTreeMap.Range.{IsLeBy, IsLtBy};
 ghost use Rattle.std.specs.Ordering.{nat_cmp};
-ghost use Rattle.std.specs.Prelude.{◌≡◌, ◌≤◌, ◌<◌, ◌+◌, ℕ, [], IfNone, IfSome, IsSome, OnErr, OnOk, None};
+ghost use Rattle.std.specs.Prelude.{◌≡◌, ◌≤◌, ◌<◌, ◌+◌, ℕ, [], IfNone, IfSome, IsSome, OnErr, OnOk, None, is_some};
 ghost use Rattle.pr_stamps.specs.Point.{IsStamp};
 
 use pr_inval::WriteRec;
@@ -12,19 +12,23 @@ use std::collections::BTreeMap;
 use std::marker::Model;
 use std::ops::Bound;
 
-// Writes by their clocks.
+// Writes by their clocks, and a clock that none of them is past.
 #[derive(Drop)]
 pub struct Writes {
     by_clock: BTreeMap<u64, WriteRec>,
+    last: u64,
 }
 
 impl Model for Writes {
     ghost use Rattle.std.specs.Prelude.{List, ℕ};
     ghost use Rattle.pr_inval.specs.declared.write_rec.WriteRec.{WriteRec};
+    ghost use Rattle.pr_log.specs.Known.{IsUpTo};
 
     ghost Value = { List (ℕ × WriteRec) };
 
     ghost view = { λ w. w.by_clock.entries };
+
+    ghost invariant = { λ w. IsUpTo w.last w.by_clock.entries };
 }
 
 impl Writes {
@@ -33,10 +37,11 @@ impl Writes {
     {
         Writes {
             by_clock: BTreeMap::new(alloc),
+            last: 0,
         }
     }
 
-    // Keeps the write, if none has its clock. It takes logarithmic time.
+    // Keeps the write, if none has its clock. It takes logarithmic time, and one look-up less past the last clock.
     pub fn add(&mut self, write: &WriteRec) -> Result<(), NoMemory>
         ensures ok { OnOk result (IsAddedAt self.old self.new write.now) }
         ensures few { OnOk result ((c : ℕ) → count_above self.new c ≤ count_above self.old c + 1) }
@@ -44,17 +49,31 @@ impl Writes {
         ensures range { IsStamp write.now.stamp }
     {
         let clock = write.stamp.clock();
-        if self.by_clock.contains_key(&clock) {
+        if self.has(clock) {
             return Ok(());
         }
         self.by_clock.insert(clock, *write)?;
+        self.last = self.last.max(clock);
         Ok(())
     }
 
-    // The first write above the clock, in logarithmic time.
+    // Whether a write has this clock.
+    fn has(&self, clock: u64) -> bool
+        ensures { result ≡ is_some (at_clock self.now clock) }
+    {
+        if self.last < clock {
+            return false;
+        }
+        self.by_clock.contains_key(&clock)
+    }
+
+    // The first write above the clock, in logarithmic time, and past the last clock in constant time.
     pub fn first_above(&self, clock: u64) -> Option<WriteRec>
         ensures { IsFirstIn self.now clock result }
     {
+        if self.last <= clock {
+            return None;
+        }
         match first_above(&self.by_clock, clock) {
             Some((_, write)) => Some(*write),
             None => None,

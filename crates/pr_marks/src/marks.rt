@@ -1,11 +1,10 @@
 // The table of marks.
 ghost use Rattle.pr_marks.specs.Pairs.{pairs_of};
-ghost use Rattle.pr_marks.specs.Row.{Kept, Rises, with_mark};
-ghost use Rattle.pr_marks.specs.Table.{IsForgotten, IsMarked, IsRaised, is_after, marks_in, marks_of, names_of, newest_of, raised_to};
+ghost use Rattle.pr_marks.specs.Row.{Rises};
+ghost use Rattle.pr_marks.specs.Table.{IsForgotten, IsMarked, IsRaised, is_after, marks_of, names_of, newest_of};
 ghost use Rattle.pr_names.specs.Order.{NamesRise};
-ghost use Rattle.pr_vectors.specs.Vector.{IsVector, zero_vector, is_covered};
-ghost use Rattle.std.specs.Prelude.{◌≡◌, [], true, false, None, Some, IfOk, IsErr, OnErr, OnOk, cond, find};
-ghost use Rattle.std.specs.Option.{option_map};
+ghost use Rattle.pr_vectors.specs.Vector.{IsVector, zero_vector};
+ghost use Rattle.std.specs.Prelude.{◌≡◌, [], true, false, None, Some, IfOk, IsErr, OnErr, OnOk, find};
 ghost use Rattle.std.specs.BTreeMap.{keys};
 
 use crate::row::Row;
@@ -61,9 +60,13 @@ impl Marks {
             return Err(NoMemory);
         }
         self.spent = true;
-        let row = raised(self.alloc, self.rows.remove(name), &newest_of(mark, gone));
-        let row = marked(row, &self.floor, mark)?;
-        self.rows.insert(*name, row)?;
+        let newest = newest_of(mark, gone);
+        let row = self
+            .rows
+            .entry(*name)?
+            .or_insert(Row::new(self.alloc, &newest));
+        row.raise(&newest);
+        row.note(&self.floor, mark)?;
         self.spent = false;
         Ok(())
     }
@@ -79,8 +82,11 @@ impl Marks {
             return Err(NoMemory);
         }
         self.spent = true;
-        let row = raised(self.alloc, self.rows.remove(name), newest);
-        self.rows.insert(*name, row)?;
+        let row = self
+            .rows
+            .entry(*name)?
+            .or_insert(Row::new(self.alloc, newest));
+        row.raise(newest);
         self.spent = false;
         Ok(())
     }
@@ -167,31 +173,6 @@ fn next_after(rows: &BTreeMap<Name, Row>, name: &Name) -> Option<Name>
         Some((next, _)) => Some(*next),
         None => None,
     }
-}
-
-// What is kept of a name once a stamp is known.
-fn raised(alloc: Global, row: Option<Row>, newest: &Newest) -> Row
-    ensures newest { result.newest ≡ raised_to (option_map (λ (k : Kept). k.newest) row) newest.now }
-    ensures marks { result.marks ≡ marks_in row }
-{
-    match row {
-        Some(mut row) => {
-            row.raise(newest);
-            row
-        }
-        None => Row::new(alloc, newest),
-    }
-}
-
-// The row with the mark, where the floor does not cover it.
-fn marked(mut row: Row, floor: &Vector, mark: &Mark) -> Result<Row, NoMemory>
-    ensures newest { IfOk result (λ r. r.newest ≡ row.newest) }
-    ensures marks { IfOk result (λ r. r.marks ≡ cond (is_covered floor.now mark.now.stamp) row.marks (with_mark row.marks mark.now)) }
-{
-    if !floor.covers(&mark.stamp) {
-        row.add(mark)?;
-    }
-    Ok(row)
 }
 
 fn newest_of(mark: &Mark, gone: bool) -> Newest

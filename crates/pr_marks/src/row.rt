@@ -4,7 +4,7 @@ ghost use Rattle.pr_vectors.specs.Vector.{is_covered};
 ghost use Rattle.pr_stamps.specs.Marks.{later};
 ghost use Rattle.pr_stamps.specs.Point.{is_before};
 ghost use Rattle.pr_stamps.specs.declared.mark.Mark.{Mark};
-ghost use Rattle.std.specs.Prelude.{◌≡◌, ◌≤◌, ◌<◌, ℕ, [], false, length, slice_index_or, IsTrue, OnErr, OnOk};
+ghost use Rattle.std.specs.Prelude.{◌≡◌, ◌≤◌, ◌<◌, ℕ, [], false, length, slice_index_or, IsTrue, OnErr, OnOk, cond};
 
 use crate::Newest;
 use pr_stamps::{Mark, NoMemory, Stamp};
@@ -60,6 +60,17 @@ impl Row {
         if self.newest.stamp.is_before(&newest.stamp) {
             self.newest = *newest;
         }
+    }
+
+    // Keeps the mark, where the floor does not cover it.
+    pub fn note(&mut self, floor: &Vector, mark: &Mark) -> Result<(), NoMemory>
+        ensures newest { self.new.newest ≡ self.old.newest }
+        ensures marks { OnOk result (self.new.marks ≡ cond (is_covered floor.now mark.now.stamp) self.old.marks (with_mark self.old.marks mark.now)) }
+    {
+        if floor.covers(&mark.stamp) {
+            return Ok(());
+        }
+        self.add(mark)
     }
 
     // Keeps the mark in its place, if no mark has its stamp.

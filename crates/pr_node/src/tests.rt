@@ -1,6 +1,7 @@
 // Tests of a node.
 
 mod acting;
+mod again;
 mod alike;
 mod building;
 mod call;

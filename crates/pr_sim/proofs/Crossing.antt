@@ -13,6 +13,7 @@ use Rattle.pr_flow.specs.declared.flow_end.FlowEnd.{FlowEnd}
 use Rattle.pr_flow.specs.declared.flow_end.FlowEnd.TheVariants as ends
 use Rattle.pr_flow.specs.declared.stop.Stop.{Stop}
 use Rattle.pr_flow.specs.declared.stop.Stop.TheVariants as stops
+use Rattle.pr_flow.specs.Crossing.{Carried, IsCutShort, IsItem, with_item}
 use Rattle.pr_flow.specs.Flows.{crossed}
 use Rattle.pr_flow.specs.Moving.{IsCut, Moves, MovesPart}
 use Rattle.pr_flow.proofs.Growing.{grows_more, grows_none}
@@ -29,7 +30,7 @@ use Rattle.pr_wire.specs.Spelling.{spelling}
 use Rattle.pr_wire.specs.declared.format.Format.TheVariants.{Two}
 use Rattle.pr_wires.specs.Calls.{Grows, IsEmptyIfTold, WireState}
 use Rattle.pr_wires.specs.Made.{Carries}
-use Rattle.pr_sim.specs.Crossing.{Adds, Carried, Crosses, FlowCarries, IsCutShort, IsItem, IsRest, IsRestOfCut, with_item}
+use Rattle.pr_sim.specs.Crossing.{Adds, Crosses, FlowCarries, IsRest, IsRestOfCut}
 use Rattle.pr_sim.specs.Flowing.{IsArrival, StopsSo, TurnsEnd}
 use Rattle.pr_sim.specs.Running.{IsRunning}
 use Rattle.pr_sim.specs.declared.engine.Engine.{Engine}

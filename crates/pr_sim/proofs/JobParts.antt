@@ -22,9 +22,9 @@ use Rattle.pr_story.specs.Scripts.{ClientJob, EachJob, FlowJob, IsPhase, Job, Jo
 use Rattle.pr_story.proofs.Begun.{nothing_begins}
 use Rattle.pr_story.proofs.InOrder.{pairs_none}
 use Rattle.pr_story.proofs.JobAfterJob.{AreOfJobs}
-use Rattle.pr_sim.specs.Commands.{IsCause, IsNoLie, StepEnds, attached_of}
+use Rattle.pr_sim.specs.Commands.{IsCause, StepEnds, attached_of}
 use Rattle.pr_sim.specs.Flowing.{FlowEndsSo}
-use Rattle.pr_flow.specs.Lies.{IsLied}
+use Rattle.pr_flow.specs.Lies.{IsLied, IsNoLie}
 use Rattle.pr_sim.specs.Phasing.{CanDo, GivesAll, IsJobLine, JobEnds}
 use Rattle.pr_sim.specs.Running.{IsRunning, Tells}
 use Rattle.pr_story.specs.Counts.{Declared}

@@ -15,7 +15,8 @@ use Rattle.pr_story.specs.Scripts.{JobAfterJob, Line, LineGives, Precedes, Singl
 use Rattle.pr_story.proofs.Begun.{nothing_begins}
 use Rattle.pr_story.proofs.InOrder.{pairs_none}
 use Rattle.pr_text.specs.Steps.{line_of}
-use Rattle.pr_sim.specs.Commands.{Ends, GivesOne, IsNoLie, StepEnds, attached_of}
+use Rattle.pr_flow.specs.Lies.{IsNoLie}
+use Rattle.pr_sim.specs.Commands.{Ends, GivesOne, StepEnds, attached_of}
 use Rattle.pr_sim.specs.Flowing.{FlowEndsSo, StopsByWires}
 use Rattle.pr_sim.specs.Running.{IsRunning}
 use Rattle.pr_story.specs.Counts.{Declared}

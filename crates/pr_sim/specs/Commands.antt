@@ -98,8 +98,3 @@ StepEnds line d attached h e (Ok (stops.Worn at)) = Ends line d attached h e (Er
 StepEnds line d attached h e (Ok (stops.Lied stream number sent got)) =
     (new : List NodeEntry) × Tells d (new ++ h) e × LineBegins JobAfterJob (attached_of d attached) line (reverse new) × IsLied (new ++ h) stream number sent got
 StepEnds line d attached h e (Err refused) = Ends line d attached h e (Err faults.NoMemory)
-
--- it is not that
-abbrev pub IsNoLie : {E : Type 0} → Result Stop E → Type 0
-IsNoLie (Ok (stops.Lied stream number sent got)) = ⊥
-IsNoLie _ = Unit {0}

@@ -1,36 +1,27 @@
 -- What crosses the wires of flows in one thread.
-use Rattle.std.specs.Prelude.{ℕ, List, [], ◌∷◌, ◌++◌, ◌≡◌, ◌≢◌, ◌⊎◌, Bool, Option, None, Some, Result, Ok, Err, reverse}
-use Rattle.std.specs.Io.{StartsWith}
+use Rattle.std.specs.Prelude.{ℕ, List, [], ◌∷◌, ◌++◌, ◌≡◌, Bool, Option, None, Some, Result, Ok, Err, reverse}
 use Rattle.pr_inval.specs.declared.msg.Msg.{Msg}
 use Rattle.pr_inval.specs.declared.node_fault.NodeFault.{NodeFault}
 use Rattle.pr_flow.specs.declared.flow_end.FlowEnd.{FlowEnd}
 use Rattle.pr_flow.specs.declared.flow_end.FlowEnd.TheVariants as ends
 use Rattle.pr_flow.specs.declared.stop.Stop.{Stop}
 use Rattle.pr_flow.specs.declared.stop.Stop.TheVariants as stops
+use Rattle.pr_flow.specs.Crossing.{Carried, IsCutShort}
 use Rattle.pr_flow.specs.Flows.{crossed}
 use Rattle.pr_story.specs.declared.cause.Cause.{Cause}
 use Rattle.pr_story.specs.declared.cause.Cause.TheVariants as causes
 use Rattle.pr_story.specs.declared.event.Event.{Event}
-use Rattle.pr_story.specs.declared.event.Event.TheVariants.{Down, Sent}
 use Rattle.pr_story.specs.History.{NodeEntry}
 use Rattle.pr_stamps.specs.declared.no_memory.NoMemory.{NoMemory}
 use Rattle.pr_script.specs.declared.command.Command.{Command}
 use Rattle.pr_script.specs.declared.command.Command.TheVariants as commands
 use Rattle.pr_story.specs.Scripts.{ClientJob, FlowJob, Job, JobGives, events_of}
-use Rattle.pr_wire.specs.Spelling.{spelling}
-use Rattle.pr_wire.specs.declared.format.Format.TheVariants.{Two}
 use Rattle.pr_wires.specs.Calls.{Grows, WireState}
-use Rattle.pr_sim.specs.Flowing.{from_way}
 use Rattle.pr_sim.specs.Running.{IsRunning}
 use Rattle.pr_story.specs.Counts.{Declared}
 use Rattle.pr_sim.specs.declared.engine.Engine.{Engine}
 
 -- ---- one wire
-
--- the events end with a message that was cut off for this cause, whose encoding begins with this part
-abbrev pub IsCutShort : ℕ → Option Msg → Cause → List Event → List ℕ → Type 0
-IsCutShort s under_way cause events part =
-    (msg : Msg) × (before : List Event) × (from_way under_way events ≡ before ++ Sent msg ∷ Down s cause ∷ []) × StartsWith (spelling Two msg) part
 
 abbrev pub IsRestOfCut : ℕ → Option Msg → Cause → List Event → List ℕ → Type 0
 IsRestOfCut s under_way causes.Gap events part = part ≡ []
@@ -56,24 +47,7 @@ Adds P d attached h e (Err fault) = Unit {0}
 
 -- ---- the wires that were closed
 
--- what crossed the wire of a flow that gave these events
-abbrev pub IsItem : ℕ → List Event → List ℕ → Type 0
-IsItem s events item =
-    (part : List ℕ) × (item ≡ crossed events ++ part)
-    × ((part ≡ []) ⊎ (IsCutShort s None causes.Failed events part ⊎ IsCutShort s None causes.Ended events part))
-
--- of the wires closed, where they are told, this one came last
-abbrev pub with_item : Option (List (List ℕ)) → List ℕ → Option (List (List ℕ))
-with_item None item = None
-with_item (Some items) item = Some (items ++ item ∷ [])
-
--- what a flow that gave these events added to what is told of the wires closed: its own wire, unless none was given
-abbrev pub Carried : ℕ → List Event → Option (List (List ℕ)) → Option (List (List ℕ)) → Type 0
-Carried s events before now =
-    ((events ≡ Down s causes.Failed ∷ []) × (now ≡ before))
-    ⊎ ((events ≢ Down s causes.Failed ∷ []) × ((item : List ℕ) × IsItem s events item × (now ≡ with_item before item)))
-
--- the same of a flow's answer that it went its way
+-- what a flow added to what is told of the wires closed, where it answers that it went its way
 abbrev pub FlowCarries : {E : Type 0} → ℕ → Option (List (List ℕ)) → Option (List (List ℕ)) → Declared → (ℕ → Bool) → List NodeEntry → Engine → Result Stop E → Type 0
 FlowCarries s before now d attached h e (Ok stops.Went) = (new : List NodeEntry) × IsRunning d attached (new ++ h) e × Carried s (events_of (reverse new)) before now
 FlowCarries s before now d attached h e stop = Unit {0}

@@ -6,8 +6,9 @@ use Rattle.pr_flow.specs.declared.flow_end.FlowEnd.{FlowEnd}
 use Rattle.pr_flow.specs.declared.flow_end.FlowEnd.TheVariants as ends
 use Rattle.pr_flow.specs.declared.stop.Stop.{Stop}
 use Rattle.pr_flow.specs.declared.stop.Stop.TheVariants as stops
+use Rattle.pr_flow.specs.Crossing.{from_way}
 use Rattle.pr_flow.specs.Ending.{EndsByWire}
-use Rattle.pr_flow.specs.Lies.{IsLied, IsLieOf}
+use Rattle.pr_flow.specs.Lies.{IsLied, IsLieOf, IsNoLie}
 use Rattle.pr_story.specs.declared.cause.Cause.{Cause}
 use Rattle.pr_story.specs.declared.cause.Cause.TheVariants.{Gap}
 use Rattle.pr_story.specs.declared.cause.Cause.TheVariants as causes
@@ -18,7 +19,7 @@ use Rattle.pr_story.specs.Lawful.{HasCause, is_after_gap}
 use Rattle.pr_story.specs.Scripts.{AreTurns, Flow, JobAfterJob, LineBegins}
 use Rattle.pr_story.specs.Turns.{IsAttached}
 use Rattle.pr_wires.specs.Calls.{WireState}
-use Rattle.pr_sim.specs.Commands.{Ends, IsNoLie, attached_of}
+use Rattle.pr_sim.specs.Commands.{Ends, attached_of}
 use Rattle.pr_sim.specs.Running.{IsRunning, Tells}
 use Rattle.pr_story.specs.Counts.{Declared}
 use Rattle.pr_sim.specs.declared.engine.Engine.{Engine}
@@ -51,11 +52,6 @@ IsBegun s under_way turns events = (rest : List Event) × AreTurns s under_way t
 -- the events, and then those of the turns that are left, are those of all the turns
 abbrev pub LeadsTo : ℕ → Option Msg → ℕ → ℕ → List Event → Type 0
 LeadsTo s under_way turns left events = (rest : List Event) → AreTurns s None left rest → AreTurns s under_way turns (events ++ rest)
-
--- what was under way, and the events
-abbrev pub from_way : Option Msg → List Event → List Event
-from_way None events = events
-from_way (Some m) events = Sent m ∷ events
 
 -- they end with the message of this number, of stream s, for which these other bytes came
 abbrev pub EndsInLie : ℕ → Option Msg → ℕ → List ℕ → List ℕ → List Event → Type 0

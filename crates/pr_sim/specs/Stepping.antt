@@ -14,7 +14,7 @@ use Rattle.pr_script.specs.Known.{has_number}
 use Rattle.pr_story.specs.History.{NodeEntry}
 use Rattle.pr_story.specs.Scripts.{attached_after}
 use Rattle.pr_text.specs.Steps.{line_of}
-use Rattle.pr_sim.specs.Commands.{IsNoLie}
+use Rattle.pr_flow.specs.Lies.{IsNoLie}
 use Rattle.pr_sim.specs.Making.{declared_of}
 use Rattle.pr_sim.specs.Running.{HasAttached, IsRunning}
 use Rattle.pr_sim.specs.declared.engine.Engine.{Engine}

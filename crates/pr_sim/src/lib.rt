@@ -21,4 +21,5 @@ mod tests;
 pub use engine::Engine;
 pub use holding::running_engines_represent;
 pub use jobs::good_phases_can_be_run;
+pub use making::copied_sets;
 pub use stepping::good_commands_can_be_run;

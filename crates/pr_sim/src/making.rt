@@ -73,7 +73,7 @@ impl Engine {
         requires apart { AreApart sets.now }
         ensures { OnOk result ((ds : List Decl) (label : List ℕ) → IsMadeOf ds self.old → IsMadeOf (ds ++ decls.Node label sets.now ∷ []) self.new) }
     {
-        let sets = copies(self.alloc, sets)?;
+        let sets = copied_sets(self.alloc, sets)?;
         let node = Node::new(self.alloc, self.nodes.len() as u32, sets)?;
         self.nodes.push(Some(node))?;
         Ok(())
@@ -101,8 +101,8 @@ impl Engine {
     }
 }
 
-// These sets anew.
-fn copies(alloc: Global, sets: &[NameSet]) -> Result<Seq<NameSet>, NoMemory>
+/// A copy of these sets, in time linear in their intervals.
+pub fn copied_sets(alloc: Global, sets: &[NameSet]) -> Result<Seq<NameSet>, NoMemory>
     ensures { IfOk result (λ copies. copies ≡ sets.now) }
 {
     let mut copies = Seq::new(alloc);

@@ -25,11 +25,11 @@ use Rattle.pr_top.proofs.Written.{appends_none}
 -- ---- a script was run
 
 -- an engine that has run it tells the history
-pub tells_run : (s : Script) (h : List NodeEntry) (e : Engine) (unmet : Option ℕ) → HasCome s [] h e unmet → Tells (declared_of s.decls.list) h e
+pub tells_run : (s : Script) (h : List NodeEntry) (e : Engine) (unmet : Option ℕ) → HasCome JobAfterJob s [] h e unmet → Tells (declared_of s.decls.list) h e
 tells_run s h e unmet k = running_tells (declared_of s.decls.list) k.attached h e k.running
 
 -- the asks are those of the node as the history left it
-pub asked_after : (s : Script) (h : List NodeEntry) (e : Engine) (unmet : Option ℕ) (n : ℕ) (ds : List Decl) (sets : List (List Span)) (es : List Entry) (text : List ℕ) → HasCome s [] h e unmet
+pub asked_after : (s : Script) (h : List NodeEntry) (e : Engine) (unmet : Option ℕ) (n : ℕ) (ds : List Decl) (sets : List (List Span)) (es : List Entry) (text : List ℕ) → HasCome JobAfterJob s [] h e unmet
     → ds ≡ s.decls.list → sets ≡ (plan_of ds).sets n → reverse es ≡ journal h n → IsAsksText ds sets n (reverse es) text → HasAsks s n (Ok text)
 asked_after s h e unmet n ds sets es text k same own past asked =
     let told = tells_run s h e unmet k in
@@ -37,8 +37,8 @@ asked_after s h e unmet n ds sets es text k same own past asked =
     subst (λ (x : List (List Span)). IsAsksText ds x n (journal h n) text) own (subst (λ (j : List Entry). IsAsksText ds sets n j text) past asked) in (
       h,
       record { valid = told.told.valid; declared = told.speaks },
-      runs_give JobAfterJob s h unmet (ended s h e unmet k),
-      begun s [] h e unmet k,
+      runs_give JobAfterJob s h unmet (ended JobAfterJob s h e unmet k),
+      begun JobAfterJob s [] h e unmet k,
       subst (λ (xs : List Decl). IsAsksText xs ((plan_of xs).sets n) n (journal h n) text) same all,
     )
 

@@ -16,10 +16,10 @@ but_last_append b p some =
     let i : length (b ++ p) - 1 ≡ length b + (length p - 1) = omega arith in
     ap (λ (n : ℕ). take n (b ++ p)) i ∙ take-append-add b p (length p - 1)
 
-ends_but_last : (b p : List ℕ) → 0 < length p → line_ends (but_last (b ++ p)) ≡ line_ends b + line_ends (take (length p - 1) p)
+pub ends_but_last : (b p : List ℕ) → 0 < length p → line_ends (but_last (b ++ p)) ≡ line_ends b + line_ends (take (length p - 1) p)
 ends_but_last b p some = ap (λ (xs : List ℕ). line_ends xs) (but_last_append b p some) ∙ ends_append b (take (length p - 1) p)
 
-ends_split : (i : ℕ) (p : List ℕ) → line_ends p ≡ line_ends (take i p) + line_ends (drop i p)
+pub ends_split : (i : ℕ) (p : List ℕ) → line_ends p ≡ line_ends (take i p) + line_ends (drop i p)
 ends_split i p = ap (λ (xs : List ℕ). line_ends xs) (sym (take-append-drop i p)) ∙ ends_append (take i p) (drop i p)
 
 pub too_many : (s : Size) (b p : List ℕ) → IsSizeOf s b → 4194304 - s.bytes < length p → IsTooLarge (b ++ p)

@@ -59,12 +59,12 @@ nodes_are ds attached h e k =
     (omega arith, omega arith)
 
 -- a workload was run to its end
-pub all_summed : (seed size : ℕ) (e : Engine) (unmet : Option ℕ) (text : List ℕ) (h : List NodeEntry) → HasCome (workload seed size) [] h e unmet → text ≡ summary_text (workload seed size).decls.list h → HasSummed (workload seed size) (Ok text)
+pub all_summed : (seed size : ℕ) (e : Engine) (unmet : Option ℕ) (text : List ℕ) (h : List NodeEntry) → HasCome JobAfterJob (workload seed size) [] h e unmet → text ≡ summary_text (workload seed size).decls.list h → HasSummed (workload seed size) (Ok text)
 all_summed seed size e unmet text h k is =
-    let run = ended (workload seed size) h e unmet k in
+    let run = ended JobAfterJob (workload seed size) h e unmet k in
     let none : unmet ≡ None = run.first ∙ nothing_unmet seed size [] run.parts in
     let told = running_tells (declared_of (workload seed size).decls.list) k.attached h e k.running in
-    (h, record { valid = told.told.valid; declared = told.speaks }, subst (λ (o : Option ℕ). IsRunOf JobAfterJob (workload seed size) h o) none run, begun (workload seed size) [] h e unmet k, is)
+    (h, record { valid = told.told.valid; declared = told.speaks }, subst (λ (o : Option ℕ). IsRunOf JobAfterJob (workload seed size) h o) none run, begun JobAfterJob (workload seed size) [] h e unmet k, is)
 
 -- ---- what is written
 
@@ -78,7 +78,7 @@ summary_cut seed size failed a b text (h, is, run, begun, same) (bad, (n, told))
 
 -- the run stopped, and this is told alone
 pub stopped_worn : (s : Script) (failed : Type 0) (a b : Option (List ℕ)) (at : ℕ) → HasSummed s (Err (halts.Worn at)) → WritesLine failed (error_line (codes "worn")) a b → HasGenerated (status.Worn at) s failed a b
-stopped_worn s failed a b at (h, is, begun, cause) (text, line, told) = record { h = h; headline = headline _ _ h is; ends = (begun, cause.0, cause.1); text = text; written = line; told = told }
+stopped_worn s failed a b at (h, is, begun, cause) (text, line, told) = record { h = h; headline = headline _ _ h is; ends = (begun, cause); text = text; written = line; told = told }
 
 pub stopped_short : (s : Script) (failed : Type 0) (a b : Option (List ℕ)) (halt : Halt) → HasSummed s (Err halt) → WritesLine failed (error_line (codes "no memory")) a b → HasGenerated status.NoMemory s failed a b
 stopped_short s failed a b halt (h, is, begun, cause) (text, line, told) = record { h = h; headline = headline _ _ h is; ends = begun; text = text; written = line; told = told }

@@ -15,6 +15,8 @@ use Rattle.pr_sim.specs.declared.engine.Engine.{Engine}
 use Rattle.pr_story.specs.declared.entry.Entry.{Entry}
 use Rattle.pr_story.specs.History.{NodeEntry}
 use Rattle.pr_text.specs.Histories.{joined}
+use Rattle.pr_story.specs.Scripts.{JobAfterJob}
+use Rattle.pr_top.specs.Runs.{all_sound}
 use Rattle.pr_top.specs.Kept.{IsStoppedIn, KeepsOn, KeepsShort, placed}
 use Rattle.pr_top.specs.KeptProgress.{HasHalted, HasKeptAll, HasKeptFrom, HasStoppedAt, IsHalted, WritesHalted, break_of}
 use Rattle.pr_top.specs.Progress.{HasCome, HasStopped, IsHalt, IsHistoryOfDecls, IsMadeBy, Writes, entry_lines}
@@ -39,7 +41,7 @@ many_kept upto made le =
     length-reverse (take upto (reverse made)) ∙ length-take upto (reverse made) ∙ ap (λ (n : ℕ). min upto n) (length-reverse made) ∙ (omega (arith, le))
 
 -- the lines before gave the history, and of what the next made so many entries were kept
-stopped_in : (s : Script) (h new : List NodeEntry) (unmet : Option ℕ) (upto : ℕ) → IsMadeBy s h new unmet → length h ≤ upto → upto < length (new ++ h) → IsStoppedIn s (kept_of upto (new ++ h)) (new ++ h) unmet
+stopped_in : (s : Script) (h new : List NodeEntry) (unmet : Option ℕ) (upto : ℕ) → IsMadeBy JobAfterJob s h new unmet → length h ≤ upto → upto < length (new ++ h) → IsStoppedIn s (kept_of upto (new ++ h)) (new ++ h) unmet
 stopped_in s h new unmet upto m le lt =
     let all : reverse (new ++ h) ≡ joined m.parts ++ reverse new = reverse-append new h ∙ ap (λ (es : List NodeEntry). es ++ reverse new) (sym m.whole) in
     let long : length (joined m.parts) ≡ length h = ap (λ (es : List NodeEntry). length es) m.whole ∙ length-reverse h in
@@ -85,8 +87,8 @@ module _ {D : Type 0} (state : D → State) (images : D → List ℕ → Type 0)
     all_kept more = keeps_then state images moment images_since old mid now (placed (reverse h)) (placed (reverse (new ++ h))) (length h) (length (new ++ h)) (placed_front new h) before more
 
     -- an entry was not kept
-    pub not_kept : (failed : Type 0) (e f : Engine) (unmet line : Option ℕ) (told : ℕ) (rest : List Numbered) (a b : Option (List ℕ)) (broke : Break) → HasCome s rest h e unmet → IsHistoryOfDecls s (new ++ h) → told ≡ length h
-        → ((new ≡ []) ⊎ IsMadeBy s h new line) → Appends a b (entry_lines s.decls.list (reverse h))
+    pub not_kept : (failed : Type 0) (e f : Engine) (unmet line : Option ℕ) (told : ℕ) (rest : List Numbered) (a b : Option (List ℕ)) (broke : Break) → HasCome JobAfterJob s rest h e unmet → IsHistoryOfDecls s (new ++ h) → told ≡ length h
+        → ((new ≡ []) ⊎ IsMadeBy JobAfterJob s h new line) → Appends a b (entry_lines s.decls.list (reverse h))
         → HasKeptFrom state images moment images_since mid now (placed (reverse (new ++ h))) told line (Err broke)
         → HasKeptAll state images moment images_since old now s failed a b f line (Err broke)
     not_kept failed e f unmet line told rest a b broke come is told_is made written (fault, same, whole, (upto, short)) =
@@ -102,7 +104,7 @@ module _ {D : Type 0} (state : D → State) (images : D → List ℕ → Type 0)
         within : upto < length (new ++ h)
         within = let l : length (placed (reverse (new ++ h))) ≡ length (new ++ h) = placed_long (new ++ h) in let lt : upto < length (placed (reverse (new ++ h))) = short.short in omega (arith, l, lt)
 
-        stops : (new ≡ []) ⊎ IsMadeBy s h new line → IsStoppedIn s (kept_of upto (new ++ h)) (new ++ h) line
+        stops : (new ≡ []) ⊎ IsMadeBy JobAfterJob s h new line → IsStoppedIn s (kept_of upto (new ++ h)) (new ++ h) line
         stops (inl none) = let l : length (new ++ h) ≡ length h = ap (λ (es : List NodeEntry). length (es ++ h)) none in absurd (omega (arith, l, within, le))
         stops (inr m) = stopped_in s h new line upto m le within
 
@@ -124,8 +126,8 @@ module _ {D : Type 0} (state : D → State) (images : D → List ℕ → Type 0)
             let lines : List ℕ = entry_lines s.decls.list (reverse h) in (
               h,
               record {
-                is = history_of s h e halts.NoMemory (stop_here s rest h e unmet come);
-                begun = begun s rest h e unmet come;
+                is = history_of JobAfterJob all_sound s h e halts.NoMemory (stop_here JobAfterJob all_sound s rest h e unmet come);
+                begun = begun JobAfterJob s rest h e unmet come;
                 cause = tt;
                 kept = inr (refl, (new, upto, le, joined_short faults.NoMemory k));
               },
@@ -134,7 +136,7 @@ module _ {D : Type 0} (state : D → State) (images : D → List ℕ → Type 0)
         by (faults.Damaged at) fine k = absurd fine
 
     -- a line was not written
-    pub not_told : (failed : Type 0) (f : Engine) (line : Option ℕ) (told : ℕ) (a b c : Option (List ℕ)) (halt : Halt) → HasStopped s (new ++ h) f halts.NoMemory → told ≡ length h
+    pub not_told : (failed : Type 0) (f : Engine) (line : Option ℕ) (told : ℕ) (a b c : Option (List ℕ)) (halt : Halt) → HasStopped JobAfterJob all_sound s (new ++ h) f halts.NoMemory → told ≡ length h
         → Appends a b (entry_lines s.decls.list (reverse h)) → KeepsOn state images moment images_since mid now (placed (reverse (new ++ h))) (length h) (length (new ++ h))
         → Writes {X = ℕ} (entry_lines s.decls.list (drop told (reverse (new ++ h)))) failed b c (Err halt) → HasKeptAll state images moment images_since old now s failed a c f line (Err (breaks.Halted halt))
     not_told failed f line told a b c halt stopped is written more cut = (new ++ h, halted halt all, writes halt all)
@@ -147,22 +149,24 @@ module _ {D : Type 0} (state : D → State) (images : D → List ℕ → Type 0)
         cause halts.NoMemory w = tt
         cause halts.WriteFault w = tt
         cause (halts.Worn at) w = absurd w
+        cause (halts.Lied stream number sent got) w = absurd w
 
         halted : (x : Halt) → Writes {X = ℕ} (entry_lines s.decls.list (reverse (new ++ h))) failed a c (Err x) → HasHalted state images moment images_since old now s (new ++ h) x
-        halted x w = record { is = history_of s (new ++ h) f halts.NoMemory stopped; begun = stopped.begun; cause = cause x w; kept = inl (all_kept more) }
+        halted x w = record { is = history_of JobAfterJob all_sound s (new ++ h) f halts.NoMemory stopped; begun = stopped.begun; cause = cause x w; kept = inl (all_kept more) }
 
         writes : (x : Halt) → Writes {X = ℕ} (entry_lines s.decls.list (reverse (new ++ h))) failed a c (Err x) → WritesHalted failed (entry_lines s.decls.list (reverse (new ++ h))) a c x
         writes halts.NoMemory w = w
         writes halts.WriteFault w = w
         writes (halts.Worn at) w = absurd w
+        writes (halts.Lied stream number sent got) w = absurd w
 
     -- the step itself halted, and its entries were kept and told
-    pub step_halted : (failed : Type 0) (f : Engine) (line : Option ℕ) (told : ℕ) (a b c : Option (List ℕ)) (halt : Halt) → HasStopped s (new ++ h) f halt → told ≡ length h
+    pub step_halted : (failed : Type 0) (f : Engine) (line : Option ℕ) (told : ℕ) (a b c : Option (List ℕ)) (halt : Halt) → HasStopped JobAfterJob all_sound s (new ++ h) f halt → told ≡ length h
         → Appends a b (entry_lines s.decls.list (reverse h)) → KeepsOn state images moment images_since mid now (placed (reverse (new ++ h))) (length h) (length (new ++ h))
         → Appends b c (entry_lines s.decls.list (drop told (reverse (new ++ h)))) → HasKeptAll state images moment images_since old now s failed a c f line (Err (breaks.Halted halt))
     step_halted failed f line told a b c halt stopped is written more rest = (
       new ++ h,
-      record { is = history_of s (new ++ h) f halt stopped; begun = stopped.begun; cause = cause halt stopped.cause; kept = inl (all_kept more) },
+      record { is = history_of JobAfterJob all_sound s (new ++ h) f halt stopped; begun = stopped.begun; cause = cause halt stopped.cause; kept = inl (all_kept more) },
       writes halt stopped.cause,
     )
       where
@@ -172,26 +176,28 @@ module _ {D : Type 0} (state : D → State) (images : D → List ℕ → Type 0)
         all : Appends a c lines
         all = subst (λ (t : List ℕ). Appends a c t) (lines_split s.decls.list h new told is) (appends_then a b c (entry_lines s.decls.list (reverse h)) (entry_lines s.decls.list (drop told (reverse (new ++ h)))) written rest)
 
-        cause : (x : Halt) → IsHalt (new ++ h) x → IsHalted (new ++ h) x
+        cause : (x : Halt) → IsHalt JobAfterJob all_sound s (new ++ h) x → IsHalted (new ++ h) x
         cause halts.NoMemory k = tt
         cause halts.WriteFault k = absurd k
-        cause (halts.Worn at) k = k
+        cause (halts.Worn at) k = (k.0, k.1)
+        cause (halts.Lied stream number sent got) k = absurd (k.0 (λ i. refl))
 
-        writes : (x : Halt) → IsHalt (new ++ h) x → WritesHalted failed lines a c x
+        writes : (x : Halt) → IsHalt JobAfterJob all_sound s (new ++ h) x → WritesHalted failed lines a c x
         writes halts.NoMemory k = (length lines, subst (λ (t : List ℕ). Appends a c t) (sym (take_all (length lines) lines (omega arith))) all)
         writes halts.WriteFault k = absurd k
         writes (halts.Worn at) k = all
+        writes (halts.Lied stream number sent got) k = absurd (k.0 (λ i. refl))
 
   -- all that a step made was kept and told
-  pub next_kept : (s : Script) (at told n m : ℕ) (e f : Engine) (unmet now : Option ℕ) (a b c : Option (List ℕ)) (u : IsUnderWay s at told e unmet a b) (new : List NodeEntry) (old mid next : Keep D)
-      → HasCome s (drop (n + 1) (drop at s.commands)) (new ++ u.h) f now → m ≡ length (new ++ u.h) → Appends b c (entry_lines s.decls.list (drop told (reverse (new ++ u.h))))
+  pub next_kept : (s : Script) (at told n m : ℕ) (e f : Engine) (unmet now : Option ℕ) (a b c : Option (List ℕ)) (u : IsUnderWay JobAfterJob all_sound s at told e unmet a b) (new : List NodeEntry) (old mid next : Keep D)
+      → HasCome JobAfterJob s (drop (n + 1) (drop at s.commands)) (new ++ u.h) f now → m ≡ length (new ++ u.h) → Appends b c (entry_lines s.decls.list (drop told (reverse (new ++ u.h))))
       → KeepsOn state images moment images_since old mid (placed (reverse u.h)) 0 (length u.h)
       → KeepsOn state images moment images_since mid next (placed (reverse (new ++ u.h))) (length u.h) (length (new ++ u.h))
-      → (w : IsUnderWay s (at + (n + 1)) m f now a c) × KeepsOn state images moment images_since old next (placed (reverse w.h)) 0 (length w.h)
+      → (w : IsUnderWay JobAfterJob all_sound s (at + (n + 1)) m f now a c) × KeepsOn state images moment images_since old next (placed (reverse w.h)) 0 (length w.h)
   next_kept s at told n m e f unmet now a b c u new old mid next come is written before more = (
     record {
       h = new ++ u.h;
-      come = subst (λ (rest : List Numbered). HasCome s rest (new ++ u.h) f now) (drop-drop (n + 1) at s.commands ∙ ap (λ (i : ℕ). drop i s.commands) (omega arith)) come;
+      come = subst (λ (rest : List Numbered). HasCome JobAfterJob s rest (new ++ u.h) f now) (drop-drop (n + 1) at s.commands ∙ ap (λ (i : ℕ). drop i s.commands) (omega arith)) come;
       all_told = is;
       written = subst (λ (t : List ℕ). Appends a c t) (lines_split s.decls.list u.h new told u.all_told) (appends_then a b c (entry_lines s.decls.list (reverse u.h)) (entry_lines s.decls.list (drop told (reverse (new ++ u.h)))) u.written written);
     },

@@ -16,9 +16,10 @@ use Rattle.pr_text.specs.Numbers.{counts_of}
 use Rattle.pr_text.specs.Transcripts.{lines_text, plan_of}
 use Rattle.pr_text.proofs.Runs.{runs_give}
 use Rattle.pr_top.specs.Kept.{KeepsOn, placed}
-use Rattle.pr_top.specs.KeptProgress.{HasEndedSo, HasHalted, HasKeptAll, HasKeptTold, IsHalted, KeepsEnded, KeepsHalted, TellsHalt, TellsHalted, WritesHalted}
+use Rattle.pr_top.specs.KeptProgress.{EndsHalted, HasEndedSo, HasHalted, HasKeptAll, HasKeptTold, IsHalted, KeepsEnded, KeepsHalted, TellsHalted, WritesHalted}
 use Rattle.pr_top.specs.Progress.{HasCome, HasTold, IsExpected, Writes, entry_lines}
-use Rattle.pr_top.specs.Runs.{HasRun, WritesLine, told_text}
+use Rattle.pr_top.specs.Runs.{all_sound, HasRun, WritesLine, told_text}
+use Rattle.pr_top.specs.Unended.{TellsEnd}
 use Rattle.pr_top.specs.declared.keeping.Break.{Break}
 use Rattle.pr_top.specs.declared.keeping.Break.TheVariants as breaks
 use Rattle.pr_top.specs.declared.keeping.KeptEnd.{KeptEnd}
@@ -43,6 +44,7 @@ whole_is s h = append_assoc (heads_text s.decls.list) (lines_text s.decls.list h
 -- lines behind the head lines
 lines_told : (failed : Type 0) (s : Script) (h : List NodeEntry) (a b c : Option (List ℕ)) (halt : Halt) → Appends a b (heads_text s.decls.list) → WritesHalted failed (entry_lines s.decls.list (reverse h)) b c halt → TellsHalted s failed h a c halt
 lines_told failed s h a b c (halts.Worn at) p q = subst (λ (t : List ℕ). Appends a c t) (told_is s h) (appends_then a b c (heads_text s.decls.list) (entry_lines s.decls.list (reverse h)) p q)
+lines_told failed s h a b c (halts.Lied stream number sent got) p q = absurd q
 lines_told failed s h a b c halts.NoMemory p q =
     subst (λ (t : List ℕ). Writes {X = ℕ} t failed a c (Err halts.NoMemory)) (told_is s h)
     (writes_then ℕ failed a b c (heads_text s.decls.list) (entry_lines s.decls.list (reverse h)) (Err halts.NoMemory) p q)
@@ -53,6 +55,7 @@ lines_told failed s h a b c halts.WriteFault p q =
 
 writes_more : (failed now : Type 0) (lines : List ℕ) (a b : Option (List ℕ)) (halt : Halt) → (failed → now) → WritesHalted failed lines a b halt → WritesHalted now lines a b halt
 writes_more failed now lines a b (halts.Worn at) f q = q
+writes_more failed now lines a b (halts.Lied stream number sent got) f q = absurd q
 writes_more failed now lines a b halts.NoMemory f q = q
 writes_more failed now lines a b halts.WriteFault f (bad, q) = (f bad, q)
 
@@ -60,7 +63,7 @@ module _ {D : Type 0} (state : D → State) (images : D → List ℕ → Type 0)
   -- ---- the head lines
 
   nothing_halted : (s : Script) (keep : Keep D) (halt : Halt) → IsHalted [] halt → KeepsOn state images moment images_since keep keep [] 0 0 → HasHalted state images moment images_since keep keep s [] halt
-  nothing_halted s keep halt cause none = record { is = record { valid = tt; declared = tt }; begun = no_run s; cause = cause; kept = inl none }
+  nothing_halted s keep halt cause none = record { is = record { valid = tt; declared = tt }; begun = no_run JobAfterJob all_sound s; cause = cause; kept = inl none }
 
   pub heads_broke : (X : Type 0) (failed : Type 0) (s : Script) (a b : Option (List ℕ)) (halt : Halt) (keep : Keep D) → KeepsOn state images moment images_since keep keep [] 0 0
       → Writes {X = X} (heads_text s.decls.list) failed a b (Err halt) → HasKeptTold state images moment images_since keep keep s failed a b (Err (breaks.Halted halt))
@@ -71,6 +74,7 @@ module _ {D : Type 0} (state : D → State) (images : D → List ℕ → Type 0)
       let m = front_of n (heads_text s.decls.list) [] in
       ([], nothing_halted s keep halts.WriteFault tt none, (take n (heads_text s.decls.list), (bad, (m.0, inl m.1)), p))
   heads_broke X failed s a b (halts.Worn at) keep none p = absurd p
+  heads_broke X failed s a b (halts.Lied stream number sent got) keep none p = absurd p
 
   pub heads_only : (failed : Type 0) (s : Script) (a b : Option (List ℕ)) (keep : Keep D) → KeepsOn state images moment images_since keep keep [] 0 0
       → Appends a b (heads_text s.decls.list) → HasKeptTold state images moment images_since keep keep s failed a b (Err (breaks.Halted halts.NoMemory))
@@ -89,13 +93,13 @@ module _ {D : Type 0} (state : D → State) (images : D → List ℕ → Type 0)
 
   -- ---- the `ok` line
 
-  module _ (s : Script) (h : List NodeEntry) (e : Engine) (unmet : Option ℕ) (k : HasCome s [] h e unmet) (a b c d : Option (List ℕ)) (p : Appends a b (heads_text s.decls.list)) (q : Appends b c (entry_lines s.decls.list (reverse h)))
+  module _ (s : Script) (h : List NodeEntry) (e : Engine) (unmet : Option ℕ) (k : HasCome JobAfterJob s [] h e unmet) (a b c d : Option (List ℕ)) (p : Appends a b (heads_text s.decls.list)) (q : Appends b c (entry_lines s.decls.list (reverse h)))
       (old new : Keep D) (kept : KeepsOn state images moment images_since old new (placed (reverse h)) 0 (length h)) (failed : Type 0) where
     told_all : Appends a c (told_text s h)
     told_all = subst (λ (t : List ℕ). Appends a c t) (told_is s h) (appends_then a b c (heads_text s.decls.list) (entry_lines s.decls.list (reverse h)) p q)
 
     halted_here : (halt : Halt) → IsHalted h halt → HasHalted state images moment images_since old new s h halt
-    halted_here halt cause = record { is = history_of s h e halts.NoMemory (stop_here s [] h e unmet k); begun = begun s [] h e unmet k; cause = cause; kept = inl kept }
+    halted_here halt cause = record { is = history_of JobAfterJob all_sound s h e halts.NoMemory (stop_here JobAfterJob all_sound s [] h e unmet k); begun = begun JobAfterJob s [] h e unmet k; cause = cause; kept = inl kept }
 
     pub end_broke : (X : Type 0) (halt : Halt) → Writes {X = X} (ok_line (length s.decls.list + length h)) failed c d (Err halt) → (halt ≡ halts.NoMemory → d ≡ c) → HasKeptTold state images moment images_since old new s failed a d (Err (breaks.Halted halt))
     end_broke X halts.NoMemory w same =
@@ -103,21 +107,22 @@ module _ {D : Type 0} (state : D → State) (images : D → List ℕ → Type 0)
         (h, halted_here halts.NoMemory tt, (length text, subst (λ (o : Option (List ℕ)). Appends a o (take (length text) text)) (sym (same refl)) (subst (λ (t : List ℕ). Appends a c t) (sym (take_all (length text) text (omega arith))) told_all)))
     end_broke X halts.WriteFault w same =
         let cut = subst (λ (t : List ℕ). Writes {X = ℕ} t failed a d (Err halts.WriteFault)) (whole_is s h) (writes_then ℕ failed a c d (told_text s h) (ok_line (length s.decls.list + length h)) (Err halts.WriteFault) told_all w) in
-        (h, halted_here halts.WriteFault tt, (take cut.1.0 (transcript_text s.decls.list h), (cut.0, (cut.1.0, inr (runs_give JobAfterJob s h unmet (ended s h e unmet k), refl))), cut.1.1))
+        (h, halted_here halts.WriteFault tt, (take cut.1.0 (transcript_text s.decls.list h), (cut.0, (cut.1.0, inr (runs_give JobAfterJob s h unmet (ended JobAfterJob s h e unmet k), refl))), cut.1.1))
     end_broke X (halts.Worn at) w same = absurd w
+    end_broke X (halts.Lied stream number sent got) w same = absurd w
 
     pub end_told : (x : Option Expected) → Appends c d (ok_line (length s.decls.list + length h)) → IsExpected unmet x → HasKeptTold state images moment images_since old new s failed a d (Ok x)
-    end_told x w expected = by x unmet (ended s h e unmet k) expected
+    end_told x w expected = by x unmet (ended JobAfterJob s h e unmet k) expected
       where
         all : Appends a d (transcript_text s.decls.list h)
         all = subst (λ (t : List ℕ). Appends a d t) (whole_is s h) (appends_then a c d (told_text s h) (ok_line (length s.decls.list + length h)) told_all w)
 
         by : (y : Option Expected) (o : Option ℕ) → IsRunOf JobAfterJob s h o → IsExpected o y → HasKeptTold state images moment images_since old new s failed a d (Ok y)
-        by None None runs is = (h, history_of s h e halts.NoMemory (stop_here s [] h e unmet k), runs, all, kept)
+        by None None runs is = (h, history_of JobAfterJob all_sound s h e halts.NoMemory (stop_here JobAfterJob all_sound s [] h e unmet k), runs, all, kept)
         by None (Some line) runs is = absurd is
         by (Some y) None runs is = absurd is
         by (Some y) (Some line) runs (same, text) =
-            (h, history_of s h e halts.NoMemory (stop_here s [] h e unmet k), subst (λ (l : ℕ). IsRunOf JobAfterJob s h (Some l)) (sym same) runs, text ∙ ap (λ (l : ℕ). unmet_line l) (sym same), all, kept)
+            (h, history_of JobAfterJob all_sound s h e halts.NoMemory (stop_here JobAfterJob all_sound s [] h e unmet k), subst (λ (l : ℕ). IsRunOf JobAfterJob s h (Some l)) (sym same) runs, text ∙ ap (λ (l : ℕ). unmet_line l) (sym same), all, kept)
 
   -- ---- the end
 
@@ -149,14 +154,23 @@ module _ {D : Type 0} (state : D → State) (images : D → List ℕ → Type 0)
         inl kept,
       )
 
+  pub ends_told : (failed later now : Type 0) (s : Script) (x : Option Expected) (result : Status) (a b c : Option (List ℕ)) (old new : Keep D) → (later → now) → HasKeptTold state images moment images_since old new s failed a b (Ok x)
+      → TellsEnd x result later b c → HasEndedSo state images moment images_since old new s now a c (ends.Ended result)
+  ends_told failed later now s None result a b c old new f told (is, same) =
+      subst (λ (r : Status). HasEndedSo state images moment images_since old new s now a c (ends.Ended r)) (sym is)
+      (subst (λ (o : Option (List ℕ)). HasEndedSo state images moment images_since old new s now a o (ends.Ended status.Ok)) (sym same) (ends_ok now s a b old new told))
+  ends_told failed later now s (Some x) result a b c old new f told (is, line) =
+      subst (λ (r : Status). HasEndedSo state images moment images_since old new s now a c (ends.Ended r)) (sym is) (ends_unmet failed later now s x a b c old new f told line)
+
   -- what was kept of a run that halted
   ends_kept : (old new : Keep D) (h : List NodeEntry) (halt : Halt) (result : Status) → (halt ≡ halts.NoMemory → result ≡ status.NoMemory) → KeepsHalted state images moment images_since old new h halt → KeepsEnded state images moment images_since old new result h
   ends_kept old new h halt result f (inl all) = inl all
   ends_kept old new h halt result f (inr (is, rest)) = inr (f is, rest)
 
   pub ends_halted : (failed later now : Type 0) (s : Script) (halt : Halt) (a b c : Option (List ℕ)) (old new : Keep D) (end : KeptEnd) → (failed → now) → (later → now) → HasKeptTold state images moment images_since old new s failed a b (Err (breaks.Halted halt))
-      → TellsHalt later halt b c end → HasEndedSo state images moment images_since old new s now a c end
-  ends_halted failed later now s halts.WriteFault a b c old new end g f (h, halted, (text, (bad, written), told)) (is, same) =
+      → EndsHalted s.decls.list later halt b c end → HasEndedSo state images moment images_since old new s now a c end
+  ends_halted failed later now s halts.WriteFault a b c old new end g f (h, halted, (text, (bad, written), told)) (result, ended, (status_is, same)) =
+      let is : end ≡ ends.Ended status.WriteFault = ended ∙ ap (λ (r : Status). ends.Ended r) status_is in
       subst (λ (x : KeptEnd). HasEndedSo state images moment images_since old new s now a c x) (sym is)
       (subst (λ (o : Option (List ℕ)). HasEndedSo state images moment images_since old new s now a o (ends.Ended status.WriteFault)) (sym same) (
         record {
@@ -169,20 +183,23 @@ module _ {D : Type 0} (state : D → State) (images : D → List ℕ → Type 0)
         },
         ends_kept old new h halts.WriteFault status.WriteFault (λ no. absurd (cc)) halted.kept,
       ))
-  ends_halted failed later now s (halts.Worn at) a b c old new end g f (h, halted, told) (is, line) =
+  ends_halted failed later now s (halts.Worn at) a b c old new end g f (h, halted, told) (result, ended, (status_is, line)) =
+      let is : end ≡ ends.Ended (status.Worn at) = ended ∙ ap (λ (r : Status). ends.Ended r) status_is in
       let all = line_then later now a b c (told_text s h) (error_line (codes "worn")) f told line in
       subst (λ (x : KeptEnd). HasEndedSo state images moment images_since old new s now a c x) (sym is) (
         record {
           h = h;
           headline = headline (plan_of s.decls.list) (counts_of s.decls.list) h halted.is;
-          ends = (halted.begun, halted.cause.0, halted.cause.1);
+          ends = (halted.begun, (halted.cause.0, halted.cause.1, tt));
           text = told_text s h ++ all.0;
           written = (all.0, all.1, refl);
           told = all.2;
         },
         ends_kept old new h (halts.Worn at) (status.Worn at) (λ no. absurd (cc)) halted.kept,
       )
-  ends_halted failed later now s halts.NoMemory a b c old new end g f (h, halted, (n, told)) (is, line) =
+  ends_halted failed later now s (halts.Lied stream number sent got) a b c old new end g f (h, halted, told) ended = absurd told
+  ends_halted failed later now s halts.NoMemory a b c old new end g f (h, halted, (n, told)) (result, ended, (status_is, line)) =
+      let is : end ≡ ends.Ended status.NoMemory = ended ∙ ap (λ (r : Status). ends.Ended r) status_is in
       let all = line_then later now a b c (take n (told_text s h)) (error_line (codes "no memory")) f told line in
       subst (λ (x : KeptEnd). HasEndedSo state images moment images_since old new s now a c x) (sym is) (
         record {
@@ -197,13 +214,13 @@ module _ {D : Type 0} (state : D → State) (images : D → List ℕ → Type 0)
       )
 
   -- memory ran out before anything was made
-  pub none_halted : (later now : Type 0) (s : Script) (a b : Option (List ℕ)) → (later → now) → WritesLine later (error_line (codes "no memory")) a b → (run : HasRun status.NoMemory s now a b) × (run.h ≡ [])
+  pub none_halted : (later now : Type 0) (s : Script) (a b : Option (List ℕ)) → (later → now) → WritesLine later (error_line (codes "no memory")) a b → (run : HasRun JobAfterJob all_sound status.NoMemory s now a b) × (run.h ≡ [])
   none_halted later now s a b f line =
       let all = line_then later now a a b (take 0 (told_text s [])) (error_line (codes "no memory")) f (appends_none a) line in (
         record {
           h = [];
           headline = headline (plan_of s.decls.list) (counts_of s.decls.list) [] (record { valid = tt; declared = tt });
-          ends = no_run s;
+          ends = no_run JobAfterJob all_sound s;
           text = take 0 (told_text s []) ++ all.0;
           written = (all.0, all.1, (0, refl));
           told = all.2;

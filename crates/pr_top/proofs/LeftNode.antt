@@ -23,7 +23,7 @@ same_node plan h n m is =
     ∙ ap (λ (j : List Entry). record { id = n; sets = plan.sets n; journal = j; spent = m.spent }) is.journal_is
     ∙ ap (λ (spent : Bool). record { id = n; sets = plan.sets n; journal = (node_after plan h n).journal; spent = spent }) is.works
 
-module _ (s : Script) (h : List NodeEntry) (e : Engine) (unmet : Option ℕ) (n : ℕ) (k : HasCome s [] h e unmet) (known : n < nodes_of s.decls.list) where
+module _ (s : Script) (h : List NodeEntry) (e : Engine) (unmet : Option ℕ) (n : ℕ) (k : HasCome JobAfterJob s [] h e unmet) (known : n < nodes_of s.decls.list) where
   pub left_within : n < length e.nodes.items
   left_within = let many : length e.nodes.items ≡ nodes_of s.decls.list = k.running.nodes in omega arith
 
@@ -45,7 +45,7 @@ module _ (s : Script) (h : List NodeEntry) (e : Engine) (unmet : Option ℕ) (n 
       absurd (cc)
 
 -- it is that of the whole run
-pub has_left : (s : Script) (h : List NodeEntry) (e : Engine) (unmet : Option ℕ) (n : ℕ) (m : Stored) → HasCome s [] h e unmet → means m ≡ node_after (plan_of s.decls.list) h n → HasLeft s n (Ok m)
+pub has_left : (s : Script) (h : List NodeEntry) (e : Engine) (unmet : Option ℕ) (n : ℕ) (m : Stored) → HasCome JobAfterJob s [] h e unmet → means m ≡ node_after (plan_of s.decls.list) h n → HasLeft s n (Ok m)
 has_left s h e unmet n m k same =
     let told = tells_run s h e unmet k in
-    (h, record { valid = told.told.valid; declared = told.speaks }, runs_give JobAfterJob s h unmet (ended s h e unmet k), same)
+    (h, record { valid = told.told.valid; declared = told.speaks }, runs_give JobAfterJob s h unmet (ended JobAfterJob s h e unmet k), same)

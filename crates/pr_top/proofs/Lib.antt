@@ -1,9 +1,14 @@
 pub mod Told
 pub mod Counting
+pub mod FewLines
 pub mod Held
 pub mod Given
+pub mod Marks
 pub mod Coming
+pub mod Singles
 pub mod Steps
+pub mod Threads
+pub mod Carried
 pub mod Promised
 pub mod Written
 pub mod Lines
@@ -20,6 +25,7 @@ pub mod PullClosed
 pub mod Refused
 pub mod StreamLists
 pub mod Unread
+pub mod OverAnswers
 pub mod Generated
 pub mod Judgements
 pub mod KeptDisks
@@ -27,3 +33,9 @@ pub mod KeptEntries
 pub mod KeptRuns
 pub mod KeptTold
 pub mod KeptEnds
+pub mod Journals
+pub mod Resumed
+pub mod StatesTold
+pub mod OutlivedTexts
+pub mod StoppedDisks
+pub mod KeptAnswers

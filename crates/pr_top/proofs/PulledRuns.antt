@@ -133,14 +133,14 @@ ends_from result s n left x y left_now now failed a b le (inl k) = inl (record {
 -- ---- the call
 
 pub has_pulled : (result : Status) (s : Script) (h : List NodeEntry) (e : Engine) (unmet : Option ℕ) (n : ℕ) (left : Option (List ℕ)) (from : ℕ) (left_now : Option (List ℕ)) (now : ℕ) (failed : Type 0) (a b : Option (List ℕ)) (then : NodeMeaning) (es : List Entry) (end : Result ℕ ServeFault)
-    → HasCome s [] h e unmet → Pulls s h n left from left_now now then es end → (text : List ℕ) × IsPulled result end failed s (with_entries n es h) text × Appends a b text
+    → HasCome JobAfterJob s [] h e unmet → Pulls s h n left from left_now now then es end → (text : List ℕ) × IsPulled result end failed s (with_entries n es h) text × Appends a b text
     → HasPulled result s n left from left_now now failed a b
 has_pulled result s h e unmet n left from left_now now failed a b then es end k pulls (text, written, told) =
     let all = tells_run s h e unmet k in
     record {
       h = h;
       headline = headline (plan_of s.decls.list) (counts_of s.decls.list) h (record { valid = all.told.valid; declared = all.speaks });
-      whole = runs_give JobAfterJob s h unmet (ended s h e unmet k);
+      whole = runs_give JobAfterJob s h unmet (ended JobAfterJob s h e unmet k);
       then = then;
       entries = es;
       end = end;

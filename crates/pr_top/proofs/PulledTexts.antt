@@ -15,11 +15,12 @@ use Rattle.pr_text.specs.Heads.{heads_text}
 use Rattle.pr_text.specs.Histories.{transcript_text}
 use Rattle.pr_text.specs.Numbers.{counts_of}
 use Rattle.pr_text.specs.Transcripts.{lines_text, plan_of}
+use Rattle.pr_story.specs.Scripts.{JobAfterJob}
 use Rattle.pr_top.specs.Progress.{Writes, entry_lines}
-use Rattle.pr_top.specs.Pulled.{HasStoppedShort, IsClosed, IsHaltTold, IsLastLine, IsPulled, IsPulledText, bytes_cause, cause_of, entries_at}
-use Rattle.pr_top.specs.Runs.{IsLine, WritesLine, told_text}
+use Rattle.pr_top.specs.Pulled.{HasStoppedShort, IsClosed, IsLastLine, IsPulled, IsPulledText, bytes_cause, cause_of, entries_at}
+use Rattle.pr_top.specs.Runs.{all_sound, IsLine, WritesLine, told_text}
 use Rattle.pr_top.specs.Served.{status_of}
-use Rattle.pr_top.specs.Unended.{HasRunUnended}
+use Rattle.pr_top.specs.Unended.{HasRunUnended, TellsHalt}
 use Rattle.pr_top.specs.declared.status.Status.{Status}
 use Rattle.pr_top.specs.declared.status.Status.TheVariants as status
 use Rattle.pr_top.specs.declared.stepping.Halt.{Halt}
@@ -30,9 +31,9 @@ use Rattle.pr_top.proofs.Written.{appends_then, lines_append}
 
 -- ---- the run of the script stopped
 
-short_worn : (later now : Type 0) (failed : Type 0) (s : Script) (at : ℕ) (a b c : Option (List ℕ)) → (later → now) → HasRunUnended s failed a b (Err (halts.Worn at)) → WritesLine later (error_line (codes "worn")) b c
+short_worn : (later now : Type 0) (failed : Type 0) (s : Script) (at : ℕ) (a b c : Option (List ℕ)) → (later → now) → HasRunUnended JobAfterJob all_sound s failed a b (Err (halts.Worn at)) → WritesLine later (error_line (codes "worn")) b c
     → HasStoppedShort (status.Worn at) s now a c
-short_worn later now failed s at a b c f (h, is, begun, (cause, told)) line =
+short_worn later now failed s at a b c f (h, (is, begun, (cause, told))) line =
     let all = line_then later now a b c (told_text s h) (error_line (codes "worn")) f told line in record {
       h = h;
       headline = headline (plan_of s.decls.list) (counts_of s.decls.list) h is;
@@ -42,9 +43,9 @@ short_worn later now failed s at a b c f (h, is, begun, (cause, told)) line =
       told = all.2;
     }
 
-short_memory : (later now : Type 0) (failed : Type 0) (s : Script) (a b c : Option (List ℕ)) → (later → now) → HasRunUnended s failed a b (Err halts.NoMemory) → WritesLine later (error_line (codes "no memory")) b c
+short_memory : (later now : Type 0) (failed : Type 0) (s : Script) (a b c : Option (List ℕ)) → (later → now) → HasRunUnended JobAfterJob all_sound s failed a b (Err halts.NoMemory) → WritesLine later (error_line (codes "no memory")) b c
     → HasStoppedShort status.NoMemory s now a c
-short_memory later now failed s a b c f (h, is, begun, (n, told)) line =
+short_memory later now failed s a b c f (h, (is, begun, (n, told))) line =
     let all = line_then later now a b c (take n (told_text s h)) (error_line (codes "no memory")) f told line in record {
       h = h;
       headline = headline (plan_of s.decls.list) (counts_of s.decls.list) h is;
@@ -54,8 +55,8 @@ short_memory later now failed s a b c f (h, is, begun, (n, told)) line =
       told = all.2;
     }
 
-short_fault : (failed : Type 0) (s : Script) (a b : Option (List ℕ)) → HasRunUnended s failed a b (Err halts.WriteFault) → HasStoppedShort status.WriteFault s failed a b
-short_fault failed s a b (h, is, begun, (bad, (n, told))) = record {
+short_fault : (failed : Type 0) (s : Script) (a b : Option (List ℕ)) → HasRunUnended JobAfterJob all_sound s failed a b (Err halts.WriteFault) → HasStoppedShort status.WriteFault s failed a b
+short_fault failed s a b (h, (is, begun, (bad, (n, told)))) = record {
   h = h;
   headline = headline (plan_of s.decls.list) (counts_of s.decls.list) h is;
   begun = begun;
@@ -64,11 +65,12 @@ short_fault failed s a b (h, is, begun, (bad, (n, told))) = record {
   told = told;
 }
 
-pub short_so : (failed later now : Type 0) (s : Script) (halt : Halt) (result : Status) (a b c : Option (List ℕ)) → (failed → now) → (later → now) → HasRunUnended s failed a b (Err halt) → IsHaltTold halt result later b c → HasStoppedShort result s now a c
-short_so failed later now s halts.WriteFault result a b c f k (h, is, begun, (bad, (n, told))) (ended, same) =
+pub short_so : (failed later now : Type 0) (s : Script) (halt : Halt) (result : Status) (a b c : Option (List ℕ)) → (failed → now) → (later → now) → HasRunUnended JobAfterJob all_sound s failed a b (Err halt) → TellsHalt s.decls.list halt result later b c → HasStoppedShort result s now a c
+short_so failed later now s halts.WriteFault result a b c f k (h, (is, begun, (bad, (n, told)))) (ended, same) =
     subst (λ (r : Status). HasStoppedShort r s now a c) (sym ended)
-    (subst (λ (o : Option (List ℕ)). HasStoppedShort status.WriteFault s now a o) (sym same) (short_fault now s a b (h, is, begun, (f bad, (n, told)))))
+    (subst (λ (o : Option (List ℕ)). HasStoppedShort status.WriteFault s now a o) (sym same) (short_fault now s a b (h, (is, begun, (f bad, (n, told))))))
 short_so failed later now s (halts.Worn at) result a b c f k stopped (ended, line) = subst (λ (r : Status). HasStoppedShort r s now a c) (sym ended) (short_worn later now failed s at a b c k stopped line)
+short_so failed later now s (halts.Lied stream number sent got) result a b c f k (h, (is, begun, (cause, told))) ended = absurd (cause.0 (λ i. refl))
 short_so failed later now s halts.NoMemory result a b c f k stopped (ended, line) = subst (λ (r : Status). HasStoppedShort r s now a c) (sym ended) (short_memory later now failed s a b c k stopped line)
 
 -- ---- entries of a node
@@ -136,6 +138,7 @@ module _ (s : Script) (h : List NodeEntry) (n : ℕ) (es : List Entry) where
         some_cut halts.NoMemory w = w
         some_cut halts.WriteFault w = w.1
         some_cut (halts.Worn at) w = absurd w
+        some_cut (halts.Lied stream number sent got) w = absurd w
 
     -- they were written, and a last line
     module _ (c : Option (List ℕ)) (told : Appends b c lines) where

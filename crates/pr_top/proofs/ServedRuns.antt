@@ -1,5 +1,5 @@
 -- A node serves what is behind a script.
-use Rattle.std.proofs.Common.{◌≡◌, ◌⊎◌, ℕ, ◌≤◌, List, [], Option, Result, Ok, Err, inl, inr, subst, sym}
+use Rattle.std.proofs.Common.{◌≡◌, ◌⊎◌, ℕ, ◌≤◌, List, [], Option, Result, Ok, Err, inl, inr, subst, sym, refl}
 use Rattle.std.specs.Io.KnownBytes.{Appends}
 use Rattle.pr_node.specs.Stored.{NodeMeaning, Stored, means}
 use Rattle.pr_script.specs.declared.script.Script.{Script}
@@ -13,6 +13,7 @@ use Rattle.pr_story.specs.Scripts.{JobAfterJob}
 use Rattle.pr_text.specs.Histories.{HasBegun, IsHistoryOf}
 use Rattle.pr_text.specs.Numbers.{counts_of}
 use Rattle.pr_text.specs.Transcripts.{plan_of}
+use Rattle.pr_top.specs.Runs.{all_sound}
 use Rattle.pr_top.specs.Served.{HasLeft, HasServed, IsStop, Serves, node_after, server_at, status_of, stop_of}
 use Rattle.pr_top.specs.Progress.{IsHalt}
 use Rattle.pr_top.specs.declared.status.Status.{Status}
@@ -99,7 +100,8 @@ asks_stopped s n left from out left_now now halt result (h, is, begun, cause) en
   ends = inr (begun, subst (λ (r : Status). IsStop r h) (sym ended) (by halt cause), appends_none out.text);
 }
   where
-    by : (x : Halt) → IsHalt h x → IsStop (stop_of x) h
-    by (halts.Worn at) cause = cause
+    by : (x : Halt) → IsHalt JobAfterJob all_sound s h x → IsStop (stop_of x) h
+    by (halts.Worn at) cause = (cause.0, cause.1)
+    by (halts.Lied stream number sent got) cause = absurd (cause.0 (λ i. refl))
     by halts.NoMemory cause = tt
     by halts.WriteFault cause = absurd cause

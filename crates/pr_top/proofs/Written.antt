@@ -52,12 +52,14 @@ writes_then Y failed a b c xs ys (Ok y) p q = appends_then a b c xs ys p q
 writes_then Y failed a b c xs ys (Err halts.NoMemory) p (n, q) = (length xs + n, subst (λ (t : List ℕ). Appends a c t) (sym (take-append-add xs ys n)) (appends_then a b c xs (take n ys) p q))
 writes_then Y failed a b c xs ys (Err halts.WriteFault) p (bad, (n, q)) = (bad, (length xs + n, subst (λ (t : List ℕ). Appends a c t) (sym (take-append-add xs ys n)) (appends_then a b c xs (take n ys) p q)))
 writes_then Y failed a b c xs ys (Err (halts.Worn at)) p q = absurd q
+writes_then Y failed a b c xs ys (Err (halts.Lied stream number sent got)) p q = absurd q
 
 -- what was cut off of a text, was cut off of a longer one
 pub writes_front : (X Y : Type 0) (failed : Type 0) (a b : Option (List ℕ)) (xs ys : List ℕ) (halt : Halt) → Writes {X = X} xs failed a b (Err halt) → Writes {X = Y} (xs ++ ys) failed a b (Err halt)
 writes_front X Y failed a b xs ys halts.NoMemory (n, q) = let m = front_of n xs ys in (m.0, subst (λ (t : List ℕ). Appends a b t) m.1 q)
 writes_front X Y failed a b xs ys halts.WriteFault (bad, (n, q)) = let m = front_of n xs ys in (bad, (m.0, subst (λ (t : List ℕ). Appends a b t) m.1 q))
 writes_front X Y failed a b xs ys (halts.Worn at) q = absurd q
+writes_front X Y failed a b xs ys (halts.Lied stream number sent got) q = absurd q
 
 -- ---- the lines of entries
 
@@ -81,6 +83,7 @@ pub writes_as : (X failed now : Type 0) (a b : Option (List ℕ)) (xs : List ℕ
 writes_as X failed now a b xs halts.NoMemory f q = q
 writes_as X failed now a b xs halts.WriteFault f (bad, q) = (f bad, q)
 writes_as X failed now a b xs (halts.Worn at) f q = absurd q
+writes_as X failed now a b xs (halts.Lied stream number sent got) f q = absurd q
 
 -- a text that was cut off, as another result
 pub cut_as : (X Y : Type 0) (failed : Type 0) (a b : Option (List ℕ)) (xs ys : List ℕ) (r : Result X Halt) (q : Result Y Halt) (halt : Halt)
@@ -93,6 +96,7 @@ cut_as X Y failed a b xs ys r q halt text is same w =
     other halts.NoMemory cut = cut
     other halts.WriteFault cut = cut
     other (halts.Worn at) cut = cut
+    other (halts.Lied stream number sent got) cut = cut
 
 pub went_as : (X : Type 0) (failed : Type 0) (a b : Option (List ℕ)) (xs ys : List ℕ) (r : Result X Halt) (x : X) → xs ≡ ys → r ≡ Ok x → Writes {X = X} xs failed a b r → Appends a b ys
 went_as X failed a b xs ys r x text is w =

@@ -1,5 +1,5 @@
 -- When the answers of the top call come, and what each leaves.
-use Rattle.std.specs.Prelude.{◌≡◌, ◌⊎◌, ◌≤◌, ◌<◌, ℕ, List, [], Option, Some, None, IfSome, codes, take}
+use Rattle.std.specs.Prelude.{◌≡◌, ◌⊎◌, ◌≤◌, ◌<◌, ℕ, Bool, List, [], Option, Some, None, IfSome, codes, take}
 use Rattle.std.specs.Io.KnownBytes.{Appends}
 use Rattle.pr_check.specs.Texts.{judgement_line}
 use Rattle.pr_check.specs.declared.judgement.Judgement.{Judgement}
@@ -9,19 +9,24 @@ use Rattle.pr_gen.specs.Workload.{workload}
 use Rattle.pr_script.specs.Labels.{number_among}
 use Rattle.pr_script.specs.declared.kind.Kind.TheVariants as kinds
 use Rattle.pr_script.specs.declared.script.Script.{Script}
+use Rattle.pr_story.specs.Scripts.{JobAfterJob}
 use Rattle.pr_text.specs.Endings.{bad_cause, error_line}
 use Rattle.pr_words.specs.declared.job.Job.{Job}
 use Rattle.pr_words.specs.declared.job.Job.TheVariants as jobs
 use Rattle.pr_top.specs.Reading.{HasBadLine, HasScript}
 use Rattle.pr_serve.specs.Sinks.{sink}
 use Rattle.pr_top.specs.Asked.{HasAsked}
+use Rattle.pr_top.specs.Carrying.{HasRunOver}
 use Rattle.pr_top.specs.Checked.{HasJudged, IsTooLong}
 use Rattle.pr_top.specs.Fronts.{HasBadFront, HasFront, HasLargeFront}
+use Rattle.pr_top.specs.Outlived.{HasRunUntil}
 use Rattle.pr_top.specs.Pulled.{EndsPull}
 use Rattle.pr_top.specs.Served.{HasServed}
 use Rattle.pr_top.specs.Generated.{HasGenerated}
-use Rattle.pr_top.specs.Runs.{HasRun, WritesLine}
+use Rattle.pr_top.specs.Runs.{HasRun, WritesLine, all_sound}
 use Rattle.pr_top.specs.Sizes.{IsTooLarge}
+use Rattle.pr_top.specs.declared.reading.ReadError.{ReadError}
+use Rattle.pr_top.specs.declared.reading.ReadError.TheVariants as errors
 use Rattle.pr_top.specs.declared.status.Status.{Status}
 use Rattle.pr_top.specs.declared.status.Status.TheVariants as status
 
@@ -57,10 +62,21 @@ IsOfRun status.WriteFault = Unit {0}
 IsOfRun (status.Lied stream number sent got) = Unit {0}
 IsOfRun _ = ⊥
 
--- a script was read, and run with this status
+-- a script was read, and run with this status in one thread, over wires that are sound
 abbrev pub RunsScript : Ports → Ports → Status → Type 0
 RunsScript a b result =
-    (s : Script) × HasScript a.left b.left s × HasRun result s (HasRisen a.write_faults b.write_faults) a.text b.text
+    (s : Script) × HasScript a.left b.left s × HasRun JobAfterJob all_sound result s (HasRisen a.write_faults b.write_faults) a.text b.text
+
+-- a script was read, and run with this status over connections of which these are sound; this was told of those closed
+-- before, and that afterwards
+abbrev pub RunsOver : (ℕ → Bool) → Option (List (List ℕ)) → Option (List (List ℕ)) → Ports → Ports → Status → Type 0
+RunsOver sound carried carried_now a b result =
+    (s : Script) × HasScript a.left b.left s × HasRunOver sound carried carried_now result s (HasRisen a.write_faults b.write_faults) a.text b.text
+
+-- a script was read, and run with this status on a disk that answers so many calls
+abbrev pub RunsUntil : ℕ → Ports → Ports → Status → Type 0
+RunsUntil stop a b result =
+    (s : Script) × HasScript a.left b.left s × HasRunUntil stop result s (HasRisen a.write_faults b.write_faults) a.text b.text
 
 -- the line alone was written
 abbrev pub Writes : Ports → Ports → List ℕ → Type 0
@@ -72,8 +88,8 @@ IsUnaccepted a b status.Usage = Writes a b (error_line (codes "usage"))
 IsUnaccepted a b status.NoMemory = Writes a b (error_line (codes "no memory"))
 IsUnaccepted a b _ = ⊥
 
--- the answer where a script is to be read and run
-pub record AnswersScript (a b : Ports) (result : Status) : Type 0 where
+-- the answer where a script is to be read and run, of which it is told what it comes to with each status
+pub record AnswersRun (Runs : Status → Type 0) (a b : Ports) (result : Status) : Type 0 where
   pub accepted : result ≡ status.Usage → ⊥
   -- a fault only where the object's own count rose
   pub read_fault : result ≡ status.ReadFault → HasRisen a.read_faults b.read_faults
@@ -84,8 +100,29 @@ pub record AnswersScript (a b : Ports) (result : Status) : Type 0 where
   -- where there is no run, the fault's line alone is written
   pub fault : IfSome (fault_line result) (λ line. Writes a b line)
   -- where there is one, the script was read to its end, and the transcript is as the headline says
-  pub run : IsOfRun result → RunsScript a b result
-  pub no_memory : result ≡ status.NoMemory → RunsScript a b result ⊎ Writes a b (error_line (codes "no memory"))
+  pub run : IsOfRun result → Runs result
+  pub no_memory : result ≡ status.NoMemory → Runs result ⊎ Writes a b (error_line (codes "no memory"))
+
+-- it is run in one thread
+abbrev pub AnswersScript : Ports → Ports → Status → Type 0
+AnswersScript a b result = AnswersRun (RunsScript a b) a b result
+
+-- it is run with the jobs of its phases beside each other, over connections of which these are sound
+abbrev pub AnswersOver : (ℕ → Bool) → Option (List (List ℕ)) → Option (List (List ℕ)) → Ports → Ports → Status → Type 0
+AnswersOver sound carried carried_now a b result = AnswersRun (RunsOver sound carried carried_now a b) a b result
+
+-- it is run in one thread, and each entry kept on a disk that answers so many calls before its line is written
+abbrev pub AnswersKept : ℕ → Ports → Ports → Status → Type 0
+AnswersKept stop a b result = AnswersRun (RunsUntil stop a b) a b result
+
+-- a script was not read, for this error, and its line alone is written
+abbrev pub IsUnreadFor : ReadError → Status → Type 0 → Option (List ℕ) → Option (List ℕ) → Type 0
+IsUnreadFor errors.Failed result failed before now = (result ≡ status.ReadFault) × WritesLine failed (error_line (codes "read")) before now
+IsUnreadFor errors.TooLarge result failed before now = (result ≡ status.TooLarge) × WritesLine failed (error_line (codes "too large")) before now
+IsUnreadFor (errors.Bad line why) result failed before now =
+    ((result ≡ status.BadScript line why) × WritesLine failed (error_line (bad_cause line why)) before now)
+    ⊎ ((result ≡ status.NoMemory) × WritesLine failed (error_line (codes "no memory")) before now)
+IsUnreadFor errors.NoMemory result failed before now = (result ≡ status.NoMemory) × WritesLine failed (error_line (codes "no memory")) before now
 
 -- the answer where a script is generated and run: nothing is read, and the summary is that of a history as the headline
 -- says; or memory ran out before there was a run
@@ -171,16 +208,22 @@ AnswersPull label a b result = (IsRefused label a b result × Writes a b (refusa
 abbrev pub IsUnread : Ports → Ports → Status → Type 0
 IsUnread a b result = (result ≡ status.NoMemory) × Writes a b (error_line (codes "no memory"))
 
--- the call's answer, by the job that the words ask for
-abbrev pub Answers : Option Job → Ports → Ports → Status → Type 0
-Answers (Some jobs.Sim) a b result = AnswersScript a b result
-Answers (Some (jobs.Gen seed size)) a b result =
+-- the call's answer, by the job that the words ask for. `sim` and `kept` run the jobs of a phase one after the other, over
+-- wires that are sound, and `run` beside each other, over connections of which these are sound; this was told of those
+-- closed before the call, and that after it
+abbrev pub Answers : Option Job → (ℕ → Bool) → Option (List (List ℕ)) → Option (List (List ℕ)) → Ports → Ports → Status → Type 0
+Answers (Some jobs.Sim) sound carried carried_now a b result = AnswersScript a b result
+Answers (Some jobs.Run) sound carried carried_now a b result = AnswersOver sound carried carried_now a b result
+Answers (Some (jobs.Gen seed size)) sound carried carried_now a b result =
     (size ≤ 90000 → AnswersGenerated (workload seed size) a b result) × (90000 < size → IsUnaccepted a b result)
-Answers (Some jobs.Check) a b result = AnswersCheck a b result
-Answers (Some (jobs.Ask node)) a b result = AnswersAsk node a b result ⊎ IsUnread a b result
-Answers (Some (jobs.Serve node)) a b result = AnswersServe node a b result ⊎ IsUnread a b result
-Answers (Some (jobs.Pull node)) a b result = AnswersPull node a b result ⊎ IsUnread a b result
-Answers _ a b result = IsUnaccepted a b result
+Answers (Some jobs.Check) sound carried carried_now a b result = AnswersCheck a b result
+Answers (Some (jobs.Kept None)) sound carried carried_now a b result = AnswersScript a b result
+Answers (Some (jobs.Kept (Some stop))) sound carried carried_now a b result =
+    (2 ≤ stop → stop ≤ 1000000000 → AnswersKept stop a b result) × ((stop < 2) ⊎ (1000000000 < stop) → IsUnaccepted a b result)
+Answers (Some (jobs.Ask node)) sound carried carried_now a b result = AnswersAsk node a b result ⊎ IsUnread a b result
+Answers (Some (jobs.Serve node)) sound carried carried_now a b result = AnswersServe node a b result ⊎ IsUnread a b result
+Answers (Some (jobs.Pull node)) sound carried carried_now a b result = AnswersPull node a b result ⊎ IsUnread a b result
+Answers _ sound carried carried_now a b result = IsUnaccepted a b result
 
 -- the exit status of a process
 abbrev pub number_of : Status → ℕ

@@ -11,7 +11,7 @@ use Rattle.pr_text.specs.Numbers.{counts_of}
 use Rattle.pr_text.specs.Transcripts.{plan_of}
 use Rattle.pr_top.specs.Headline.{Headline}
 use Rattle.pr_top.specs.Progress.{IsHistoryOfDecls}
-use Rattle.pr_top.specs.Runs.{IsEnd, IsLine}
+use Rattle.pr_top.specs.Runs.{all_sound, IsEnd, IsLine}
 use Rattle.pr_top.specs.Silent.{HasStoppedSo}
 use Rattle.pr_top.specs.declared.status.Status.{Status}
 use Rattle.pr_top.specs.declared.status.Status.TheVariants as status
@@ -31,7 +31,7 @@ IsSummed _ failed s h text = ⊥
 pub record HasGenerated (result : Status) (s : Script) (failed : Type 0) (before now : Option (List ℕ)) : Type 0 where
   pub h : List NodeEntry
   pub headline : Headline (plan_of s.decls.list) (counts_of s.decls.list) h
-  pub ends : IsEnd result s h
+  pub ends : IsEnd JobAfterJob all_sound result s h
   pub text : List ℕ
   pub written : IsSummed result failed s h text
   pub told : Appends before now text

@@ -18,7 +18,7 @@ use Rattle.pr_text.specs.Heads.{heads_text}
 use Rattle.pr_text.specs.Histories.{EachGives, attached_by, joined, streams_of, unmet_from}
 use Rattle.pr_text.specs.Steps.{step_line}
 use Rattle.pr_top.specs.Progress.{IsHistoryOfDecls, entry_lines}
-use Rattle.pr_top.specs.Runs.{HasRun}
+use Rattle.pr_top.specs.Runs.{all_sound, HasRun}
 use Rattle.pr_top.specs.declared.keeping.KeptEnd.{KeptEnd}
 use Rattle.pr_top.specs.declared.keeping.KeptEnd.TheVariants as ends
 use Rattle.pr_top.specs.declared.status.Status.{Status}
@@ -119,7 +119,7 @@ module _ {D : Type 0} (state : D → State) (images : D → List ℕ → Type 0)
   -- the run ended as one without a disk does; or memory ran out before there was a file
   abbrev pub HasEndedKept : D → D → Status → Script → Type 0 → Option (List ℕ) → Option (List ℕ) → Type 0
   HasEndedKept old new result s failed before now =
-      (run : HasRun result s failed before now)
+      (run : HasRun JobAfterJob all_sound result s failed before now)
       × (EndsOn old new result run.h ⊎ ((result ≡ status.NoMemory) × (run.h ≡ []) × ((fault : KeepFault) × HasMadeNone old new fault)))
 
   -- the disk stopped: before there was a file, or later, where the head lines were written and the lines of the first

@@ -6,6 +6,7 @@ use Rattle.pr_keep.specs.Disk.{State}
 use Rattle.pr_keep.specs.declared.fault.KeepFault.{KeepFault}
 use Rattle.pr_keep.specs.declared.fault.KeepFault.TheVariants as faults
 use Rattle.pr_keep.specs.declared.keep.Keep.{Keep}
+use Rattle.pr_script.specs.declared.decl.Decl.{Decl}
 use Rattle.pr_script.specs.declared.script.Script.{Script}
 use Rattle.pr_sim.specs.declared.engine.Engine.{Engine}
 use Rattle.pr_story.specs.declared.entry.Entry.{Entry}
@@ -16,7 +17,8 @@ use Rattle.pr_text.specs.Heads.{heads_text}
 use Rattle.pr_text.specs.Histories.{HasBegun, IsRunOf, transcript_text}
 use Rattle.pr_top.specs.Kept.{IsStoppedIn, KeepsOn, KeepsShort, placed}
 use Rattle.pr_top.specs.Progress.{HasCome, IsHistoryOfDecls, entry_lines}
-use Rattle.pr_top.specs.Runs.{HasRun, IsWritten, WritesLine, told_text}
+use Rattle.pr_top.specs.Runs.{all_sound, HasRun, IsWritten, WritesLine, told_text}
+use Rattle.pr_top.specs.Unended.{TellsHalt}
 use Rattle.pr_top.specs.declared.keeping.Break.{Break}
 use Rattle.pr_top.specs.declared.keeping.Break.TheVariants as breaks
 use Rattle.pr_top.specs.declared.keeping.KeptEnd.{KeptEnd}
@@ -36,26 +38,27 @@ break_of (faults.Damaged at) told unmet = breaks.Halted halts.NoMemory
 -- the lines of a run that halted were written, or a beginning of them
 abbrev pub WritesHalted : Type 0 → List ℕ → Option (List ℕ) → Option (List ℕ) → Halt → Type 0
 WritesHalted failed lines before now (halts.Worn at) = Appends before now lines
+WritesHalted failed lines before now (halts.Lied stream number sent got) = ⊥
 WritesHalted failed lines before now halts.NoMemory = (n : ℕ) × Appends before now (take n lines)
 WritesHalted failed lines before now halts.WriteFault = failed × ((n : ℕ) × Appends before now (take n lines))
 
 -- the same with the head lines, and of the `ok` line a beginning
 abbrev pub TellsHalted : Script → Type 0 → List NodeEntry → Option (List ℕ) → Option (List ℕ) → Halt → Type 0
 TellsHalted s failed h before now (halts.Worn at) = Appends before now (told_text s h)
+TellsHalted s failed h before now (halts.Lied stream number sent got) = ⊥
 TellsHalted s failed h before now halts.NoMemory = (n : ℕ) × Appends before now (take n (told_text s h))
-TellsHalted s failed h before now halts.WriteFault = (text : List ℕ) × IsWritten status.WriteFault failed s h text × Appends before now text
+TellsHalted s failed h before now halts.WriteFault = (text : List ℕ) × IsWritten JobAfterJob status.WriteFault failed s h text × Appends before now text
 
 -- why it halted: a node is worn, behind that many entries
 abbrev pub IsHalted : List NodeEntry → Halt → Type 0
 IsHalted h (halts.Worn at) = (at ≡ 4611686018427387903) × (4611686018427387903 ≤ length h)
+IsHalted h (halts.Lied stream number sent got) = ⊥
 IsHalted h halts.NoMemory = Unit {0}
 IsHalted h halts.WriteFault = Unit {0}
 
 -- a run that halted ends so, with its last line
-abbrev pub TellsHalt : Type 0 → Halt → Option (List ℕ) → Option (List ℕ) → KeptEnd → Type 0
-TellsHalt failed halts.WriteFault before now end = (end ≡ ends.Ended status.WriteFault) × (now ≡ before)
-TellsHalt failed (halts.Worn at) before now end = (end ≡ ends.Ended (status.Worn at)) × WritesLine failed (error_line (codes "worn")) before now
-TellsHalt failed halts.NoMemory before now end = (end ≡ ends.Ended status.NoMemory) × WritesLine failed (error_line (codes "no memory")) before now
+abbrev pub EndsHalted : List Decl → Type 0 → Halt → Option (List ℕ) → Option (List ℕ) → KeptEnd → Type 0
+EndsHalted ds failed halt before now end = (result : Status) × (end ≡ ends.Ended result) × TellsHalt ds halt result failed before now
 
 -- no file was made, for this fault: where the disk failed nothing is told, and else that memory ran out
 abbrev pub IsUnmade : Type 0 → KeepFault → Option (List ℕ) → Option (List ℕ) → KeptEnd → Type 0
@@ -99,7 +102,7 @@ module _ {D : Type 0} (state : D → State) (images : D → List ℕ → Type 0)
   -- all commands were run, their entries kept and their lines written; or the run broke off
   abbrev pub HasKeptAll : Keep D → Keep D → Script → Type 0 → Option (List ℕ) → Option (List ℕ) → Engine → Option ℕ → Result (Unit {0}) Break → Type 0
   HasKeptAll old new s failed before now e unmet (Ok done) =
-      (h : List NodeEntry) × HasCome s [] h e unmet × Appends before now (entry_lines s.decls.list (reverse h))
+      (h : List NodeEntry) × HasCome JobAfterJob s [] h e unmet × Appends before now (entry_lines s.decls.list (reverse h))
       × KeepsOn state images moment images_since old new (placed (reverse h)) 0 (length h)
   HasKeptAll old new s failed before now e unmet (Err (breaks.Halted halt)) =
       (h : List NodeEntry) × HasHalted old new s h halt × WritesHalted failed (entry_lines s.decls.list (reverse h)) before now halt
@@ -128,7 +131,7 @@ module _ {D : Type 0} (state : D → State) (images : D → List ℕ → Type 0)
       × KeepsShort state images moment images_since old new (placed (reverse (later ++ h))) 0 upto faults.NoMemory))
 
   abbrev pub HasEndedSo : Keep D → Keep D → Script → Type 0 → Option (List ℕ) → Option (List ℕ) → KeptEnd → Type 0
-  HasEndedSo old new s failed before now (ends.Ended result) = (run : HasRun result s failed before now) × KeepsEnded old new result run.h
+  HasEndedSo old new s failed before now (ends.Ended result) = (run : HasRun JobAfterJob all_sound result s failed before now) × KeepsEnded old new result run.h
   HasEndedSo old new s failed before now (ends.Stopped lines line) =
       (kept : List NodeEntry) × (told : ℕ) × (lines ≡ min (length s.decls.list + told) 18446744073709551615) × HasStoppedAt old new s kept told line
       × Appends before now (heads_text s.decls.list ++ entry_lines s.decls.list (take told (reverse kept)))

@@ -4,9 +4,12 @@ pub mod Runs
 pub mod Reading
 pub mod Progress
 pub mod Stopping
+pub mod Carrying
 pub mod Silent
 pub mod Kept
 pub mod KeptProgress
+pub mod Outlived
+pub mod Resuming
 pub mod Generated
 pub mod Asked
 pub mod Checked

@@ -127,12 +127,6 @@ abbrev pub PullsFrom : Script → ℕ → Option (List ℕ) → ℕ → Option (
 PullsFrom s n left faults left_now faults_now node then end =
     (h : List NodeEntry) → node ≡ node_after (plan_of s.decls.list) h n → (es : List Entry) × Pulls s h n left faults left_now faults_now then es end
 
--- the last line of a run that stopped so; none where the sink failed
-abbrev pub IsHaltTold : Halt → Status → Type 0 → Option (List ℕ) → Option (List ℕ) → Type 0
-IsHaltTold halts.WriteFault result failed before now = (result ≡ status.WriteFault) × (now ≡ before)
-IsHaltTold (halts.Worn at) result failed before now = (result ≡ status.Worn at) × WritesLine failed (error_line (codes "worn")) before now
-IsHaltTold halts.NoMemory result failed before now = (result ≡ status.NoMemory) × WritesLine failed (error_line (codes "no memory")) before now
-
 -- the last line of a pull that ended so, behind so many lines
 abbrev pub IsLastLine : Result ℕ ServeFault → Type 0 → ℕ → List ℕ → Type 0
 IsLastLine (Ok count) failed lines last = last ≡ ok_line (lines + count)

@@ -14,13 +14,13 @@ use pr_ports::{Sink, Source};
 use pr_stamps::Seq;
 use std::alloc::Global;
 
-// The most bytes of a text.
-const MOST_BYTES: usize = 67108864;
+/// The most bytes of a text.
+pub const MOST_BYTES: usize = 67108864;
 
 // How many bytes a read asks for.
 const PIECE: usize = 4096;
 
-/// Why no text was judged.
+/// Why no text was read to its end.
 #[derive(Clone, Copy)]
 pub enum CheckError {
     Failed,
@@ -69,13 +69,13 @@ fn finish(judge: TextJudge) -> Result<Judgement, CheckError>
     ensures { (bytes : List ℕ) → HasRead judge bytes → IsFoundAtEnd bytes result }
 {
     match judge.finish() {
-        Ok(judgement) => Ok(judgement),
+        Ok(reading) => Ok(reading.judgement()),
         Err(_) => Err(CheckError::NoMemory),
     }
 }
 
-// Writes the judgement's line.
-fn say<K: Sink>(alloc: Global, judgement: Judgement, out: &mut K) -> Status
+/// Writes the judgement's line.
+pub fn say<K: Sink>(alloc: Global, judgement: Judgement, out: &mut K) -> Status
     ensures { IsSaid judgement (HasRisen (K.faults out.old) (K.faults out.new)) (K.text out.old) (K.text out.new) result }
 {
     let mut line = Seq::new(alloc);

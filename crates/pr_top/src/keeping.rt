@@ -8,15 +8,16 @@ ghost use Rattle.pr_sim.specs.Running.{Tells};
 ghost use Rattle.pr_story.specs.Counts.{Declared};
 ghost use Rattle.pr_story.specs.History.{NodeEntry};
 ghost use Rattle.pr_text.specs.Heads.{heads_text};
+ghost use Rattle.pr_story.specs.Scripts.{JobAfterJob};
 ghost use Rattle.pr_top.specs.Kept.{HasRunKept, placed};
-ghost use Rattle.pr_top.specs.KeptProgress.{HasEndedSo, HasKeptAll, HasKeptFrom, HasKeptTold, IsUnmade, TellsHalt, break_of};
+ghost use Rattle.pr_top.specs.KeptProgress.{HasEndedSo, HasKeptAll, HasKeptFrom, HasKeptTold, EndsHalted, IsUnmade, break_of};
 ghost use Rattle.pr_top.specs.Progress.{HasCome, Writes};
 ghost use Rattle.pr_top.specs.declared.keeping.Break.TheVariants as breaks;
 ghost use Rattle.pr_top.specs.declared.stepping.Halt.TheVariants as halts;
 ghost use Rattle.std.specs.Prelude.{◌≡◌, ◌≤◌, [], List, length, reverse, take};
 
 use crate::Status;
-use crate::running::{Expected, end, tell_from, write};
+use crate::running::{Expected, end, tell_end, tell_from, tell_halt, write};
 use crate::stepping::{Halt, Run};
 use crate::telling::tell;
 use pr_keep::{Disk, Keep, KeepFault, KeepRefused};
@@ -38,7 +39,7 @@ pub enum KeptEnd {
 }
 
 /// Why a kept run did not come to the end of its script.
-#[derive(Clone, Copy)]
+#[derive(Drop)]
 pub enum Break {
     Halted(Halt),
     /// The disk failed where the lines of so many entries were written.
@@ -114,12 +115,11 @@ fn run_kept<D: Disk, K: Sink>(
     ensures rises { K.faults out.old ≤ K.faults out.new }
 {
     match transcript(alloc, script, keep, out) {
-        Ok(None) => KeptEnd::Ended { status: Status::Ok },
-        Ok(Some(Expected { line, text })) => {
-            let status = tell(out, Status::Unmet { line }, text.as_slice());
+        Ok(expected) => {
+            let status = tell_end(&expected, out);
             KeptEnd::Ended { status }
         }
-        Err(Break::Halted(halt)) => halted(out, halt),
+        Err(Break::Halted(halt)) => halted(alloc, &script.decls, halt, out),
         Err(Break::Stopped { told, unmet }) => {
             let heads = script.decls.list.as_slice().len() as u64;
             let lines = heads.saturating_add(told as u64);
@@ -129,23 +129,12 @@ fn run_kept<D: Disk, K: Sink>(
 }
 
 // Tells why the run halted.
-fn halted<K: Sink>(out: &mut K, halt: Halt) -> KeptEnd
-    ensures halt { TellsHalt (HasRisen (K.faults out.old) (K.faults out.new)) halt (K.text out.old) (K.text out.new) result }
+fn halted<K: Sink>(alloc: Global, decls: &Decls, halt: Halt, out: &mut K) -> KeptEnd
+    ensures halt { EndsHalted decls.now.list (HasRisen (K.faults out.old) (K.faults out.new)) halt (K.text out.old) (K.text out.new) result }
     ensures rises { K.faults out.old ≤ K.faults out.new }
 {
-    match halt {
-        Halt::WriteFault => KeptEnd::Ended {
-            status: Status::WriteFault,
-        },
-        Halt::Worn { at } => {
-            let status = tell(out, Status::Worn { at }, b"error worn\n");
-            KeptEnd::Ended { status }
-        }
-        Halt::NoMemory => {
-            let status = tell(out, Status::NoMemory, b"error no memory\n");
-            KeptEnd::Ended { status }
-        }
-    }
+    let status = tell_halt(alloc, decls, halt, out);
+    KeptEnd::Ended { status }
 }
 
 // Writes the transcript up to its `ok` line, each entry kept before its line.
@@ -188,7 +177,7 @@ fn commands<D: Disk, K: Sink>(
     keep: &mut Keep<D>,
     out: &mut K,
 ) -> Result<(), Break>
-    requires come { HasCome script.now script.now.commands [] run.old.engine run.old.unmet }
+    requires come { HasCome JobAfterJob script.now script.now.commands [] run.old.engine run.old.unmet }
     requires kept { Keeps D.state D.images keep.old [] }
     ensures run { HasKeptAll D.state D.images D.moment D.images_since keep.old keep.new script.now (HasRisen (K.faults out.old) (K.faults out.new)) (K.text out.old) (K.text out.new) run.new.engine run.new.unmet result }
     ensures rises { K.faults out.old ≤ K.faults out.new }

@@ -5,6 +5,7 @@ ghost use Rattle.pr_script.specs.declared.script.Script.{Script};
 ghost use Rattle.pr_story.specs.History.{NodeEntry};
 ghost use Rattle.pr_text.specs.Numbers.{nodes_of};
 ghost use Rattle.pr_text.specs.Transcripts.{plan_of};
+ghost use Rattle.pr_story.specs.Scripts.{JobAfterJob};
 ghost use Rattle.pr_top.specs.Progress.{HasCome};
 ghost use Rattle.pr_top.specs.Served.{HasLeft, node_after};
 ghost use Rattle.std.specs.Prelude.{◌≡◌, ◌<◌, [], List};
@@ -28,8 +29,8 @@ pub fn node_after(alloc: Global, script: &Script, number: u32) -> Result<Node, H
 
 /// The node of this number, as the run left it, in constant time.
 pub fn node_of(run: Run, number: u32) -> Node
-    requires { (s : Script) × (h : List NodeEntry) × HasCome s [] h run.engine run.unmet × (number < nodes_of s.decls.list) }
-    ensures { (s : Script) (h : List NodeEntry) → HasCome s [] h run.engine run.unmet → number < nodes_of s.decls.list → means result ≡ node_after (plan_of s.decls.list) h number }
+    requires { (s : Script) × (h : List NodeEntry) × HasCome JobAfterJob s [] h run.engine run.unmet × (number < nodes_of s.decls.list) }
+    ensures { (s : Script) (h : List NodeEntry) → HasCome JobAfterJob s [] h run.engine run.unmet → number < nodes_of s.decls.list → means result ≡ node_after (plan_of s.decls.list) h number }
 {
     let mut engine = run.engine;
     match engine.take_node(number) {

@@ -3,14 +3,18 @@
 
 mod asker;
 mod asking;
+mod beside;
 mod checking;
 mod fronts;
 mod generating;
 mod keeping;
 mod left;
 mod nodes;
+mod outliving;
 mod pulling;
 mod reading;
+mod reopening;
+mod resuming;
 mod running;
 mod serving;
 mod silent;
@@ -24,6 +28,9 @@ mod tests;
 mod top;
 mod writing;
 
+pub use checking::{CheckError, MOST_BYTES, say};
 pub use keeping::{KeptEnd, kept};
 pub use status::Status;
+pub use telling::tell;
 pub use top::{alone, practi};
+pub use writing::write_all;

@@ -6,9 +6,10 @@ ghost use Rattle.pr_script.specs.Labels.{AreLabels};
 ghost use Rattle.pr_serve.specs.declared.serve_fault.ServeFault.TheVariants as faults;
 ghost use Rattle.pr_story.specs.History.{NodeEntry};
 ghost use Rattle.pr_text.specs.Numbers.{nodes_of};
+ghost use Rattle.pr_story.specs.Scripts.{JobAfterJob};
 ghost use Rattle.pr_top.specs.Answers.{AnswersPull, ports_of};
 ghost use Rattle.pr_top.specs.Progress.{HasCome, Writes, entry_lines};
-ghost use Rattle.pr_top.specs.Pulled.{EndsPull, HasPulled, IsClosed, IsHaltTold, IsOkTold, PullsFrom, bytes_cause, entries_at};
+ghost use Rattle.pr_top.specs.Pulled.{EndsPull, HasPulled, IsClosed, IsOkTold, PullsFrom, bytes_cause, entries_at};
 ghost use Rattle.pr_text.specs.Endings.{error_line};
 ghost use Rattle.pr_top.specs.Runs.{WritesLine, told_text};
 ghost use Rattle.std.specs.Io.KnownBytes.{Appends, prepend_known};
@@ -19,7 +20,7 @@ use crate::fronts::{Front, read_front};
 use crate::left::node_of;
 use crate::nodes::{node_count, number_of};
 use crate::reading::ReadError;
-use crate::running::{tell_line, unended, write};
+use crate::running::{tell_halt, tell_line, unended, write};
 use crate::stepping::{Halt, Run};
 use crate::streams::streams_to;
 use crate::telling::{no_memory, tell, tell_bad};
@@ -65,19 +66,7 @@ fn pull_front<S: Source, K: Sink>(
 {
     match unended(alloc, &front.script, out) {
         Ok(run) => pull_behind(alloc, front, run, number, source, out),
-        Err(halt) => tell_halt(halt, out),
-    }
-}
-
-// Writes the last line of a run that stopped so.
-fn tell_halt<K: Sink>(halt: Halt, out: &mut K) -> Status
-    ensures told { IsHaltTold halt result (HasRisen (K.faults out.old) (K.faults out.new)) (K.text out.old) (K.text out.new) }
-    ensures rises { K.faults out.old ≤ K.faults out.new }
-{
-    match halt {
-        Halt::WriteFault => Status::WriteFault,
-        Halt::Worn { at } => tell(out, Status::Worn { at }, b"error worn\n"),
-        Halt::NoMemory => no_memory(out),
+        Err(halt) => tell_halt(alloc, &front.script.decls, halt, out),
     }
 }
 
@@ -94,8 +83,8 @@ fn pull_behind<S: Source, K: Sink>(
     requires labels { AreLabels front.now.script.decls.list }
     requires known { number < nodes_of front.now.script.decls.list }
     requires few { length front.now.ahead ≤ 4096 }
-    requires come { (h : List NodeEntry) × HasCome front.now.script [] h run.engine run.unmet }
-    ensures { (h : List NodeEntry) (before : Option (List ℕ)) (risen : ℕ) → HasCome front.now.script [] h run.engine run.unmet → Appends before (K.text out.old) (told_text front.now.script h) → risen ≤ K.faults out.old → HasPulled result front.now.script number (prepend_known front.now.ahead (S.left source.old)) (S.faults source.old) (S.left source.new) (S.faults source.new) (HasRisen risen (K.faults out.new)) before (K.text out.new) }
+    requires come { (h : List NodeEntry) × HasCome JobAfterJob front.now.script [] h run.engine run.unmet }
+    ensures { (h : List NodeEntry) (before : Option (List ℕ)) (risen : ℕ) → HasCome JobAfterJob front.now.script [] h run.engine run.unmet → Appends before (K.text out.old) (told_text front.now.script h) → risen ≤ K.faults out.old → HasPulled result front.now.script number (prepend_known front.now.ahead (S.left source.old)) (S.faults source.old) (S.left source.new) (S.faults source.new) (HasRisen risen (K.faults out.new)) before (K.text out.new) }
 {
     let decls = &front.script.decls;
     let lines = decls.list.as_slice().len() + run.engine.history().len();

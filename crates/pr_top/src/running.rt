@@ -5,17 +5,18 @@ ghost use Rattle.pr_script.specs.declared.script.Script.{Script};
 ghost use Rattle.pr_sim.specs.Making.{declared_of};
 ghost use Rattle.pr_sim.specs.Running.{Tells};
 ghost use Rattle.pr_story.specs.History.{NodeEntry};
+ghost use Rattle.pr_story.specs.Scripts.{JobAfterJob, Order};
 ghost use Rattle.pr_text.specs.Endings.{ok_line};
 ghost use Rattle.pr_text.specs.Lines.{line_text};
 ghost use Rattle.pr_top.specs.Progress.{HasCome, HasRunAll, HasTold, IsExpected, Writes, entry_lines};
-ghost use Rattle.pr_top.specs.Runs.{HasRun};
-ghost use Rattle.pr_top.specs.Unended.{HasRunUnended};
+ghost use Rattle.pr_top.specs.Runs.{HasRun, HasRunTo, IsToEnd, all_sound};
+ghost use Rattle.pr_top.specs.Unended.{HasBegunWell, HasRunUnended, HasRunUnendedTo, TellsEnd, TellsHalt};
 ghost use Rattle.pr_top.specs.declared.stepping.Halt.TheVariants as halts;
-ghost use Rattle.std.specs.Prelude.{◌≡◌, ◌≤◌, ◌<◌, ◌+◌, [], Err, IfErr, IfOk, List, drop, length, reverse, slice_index_or};
+ghost use Rattle.std.specs.Prelude.{◌≡◌, ◌≤◌, ◌<◌, ◌+◌, [], ℕ, Bool, Err, IfErr, IfOk, List, Option, drop, length, reverse, slice_index_or};
 
 use crate::Status;
 use crate::stepping::{Halt, Run};
-use crate::telling::tell;
+use crate::telling::{no_memory, tell, tell_lie};
 use crate::writing::write_all;
 use pr_ports::Sink;
 use pr_script::{Bytes, Decls, Script};
@@ -29,15 +30,60 @@ use std::alloc::Global;
 /// command runs.
 pub fn run<K: Sink>(alloc: Global, script: &Script, out: &mut K) -> Status
     requires { IsGood script.now }
-    ensures run { HasRun result script.now (HasRisen (K.faults out.old) (K.faults out.new)) (K.text out.old) (K.text out.new) }
+    ensures run { HasRun JobAfterJob all_sound result script.now (HasRisen (K.faults out.old) (K.faults out.new)) (K.text out.old) (K.text out.new) }
     ensures rises { K.faults out.old ≤ K.faults out.new }
 {
-    match transcript(alloc, script, out) {
-        Ok(None) => Status::Ok,
-        Ok(Some(Expected { line, text })) => tell(out, Status::Unmet { line }, text.as_slice()),
-        Err(Halt::WriteFault) => Status::WriteFault,
-        Err(Halt::Worn { at }) => tell(out, Status::Worn { at }, b"error worn\n"),
-        Err(Halt::NoMemory) => tell(out, Status::NoMemory, b"error no memory\n"),
+    let ended = unended(alloc, script, out);
+    finish(alloc, script, ended, out)
+}
+
+/// Ends the transcript of a run, and answers how it ended.
+pub fn finish<K: Sink>(
+    alloc: Global,
+    script: &Script,
+    ended: Result<Run, Halt>,
+    out: &mut K,
+) -> Status
+    requires { IfOk ended (λ run. (order : Order) × (h : List NodeEntry) × HasCome order script.now [] h run.engine run.unmet) }
+    ensures run { (order : Order) (sound : ℕ → Bool) (h : List NodeEntry) (before : Option (List ℕ)) (risen : ℕ) → risen ≤ K.faults out.old → HasRunUnendedTo order sound script.now h (HasRisen risen (K.faults out.old)) before (K.text out.old) ended → HasRunTo order sound result script.now h (HasRisen risen (K.faults out.new)) before (K.text out.new) }
+    ensures stops { IfErr ended (λ halt. ¬ IsToEnd result) }
+    ensures rises { K.faults out.old ≤ K.faults out.new }
+{
+    match transcript(alloc, script, ended, out) {
+        Ok(expected) => tell_end(&expected, out),
+        Err(halt) => tell_halt(alloc, &script.decls, halt, out),
+    }
+}
+
+/// Writes the line of what was not met, where that is something.
+pub fn tell_end<K: Sink>(expected: &Option<Expected>, out: &mut K) -> Status
+    ensures told { TellsEnd expected.now result (HasRisen (K.faults out.old) (K.faults out.new)) (K.text out.old) (K.text out.new) }
+    ensures rises { K.faults out.old ≤ K.faults out.new }
+{
+    match expected {
+        None => Status::Ok,
+        Some(expected) => {
+            let line = expected.line;
+            tell(out, Status::Unmet { line }, expected.text.as_slice())
+        }
+    }
+}
+
+/// Writes the last line of a run that stopped so.
+pub fn tell_halt<K: Sink>(alloc: Global, decls: &Decls, halt: Halt, out: &mut K) -> Status
+    ensures told { TellsHalt decls.now.list halt result (HasRisen (K.faults out.old) (K.faults out.new)) (K.text out.old) (K.text out.new) }
+    ensures rises { K.faults out.old ≤ K.faults out.new }
+{
+    match halt {
+        Halt::WriteFault => Status::WriteFault,
+        Halt::Worn { at } => tell(out, Status::Worn { at }, b"error worn\n"),
+        Halt::Lied {
+            stream,
+            number,
+            sent,
+            got,
+        } => tell_lie(alloc, decls, stream, number, sent, got, out),
+        Halt::NoMemory => no_memory(out),
     }
 }
 
@@ -48,17 +94,19 @@ pub struct Expected {
     pub text: Bytes,
 }
 
-// Writes the transcript up to its `ok` line.
+// Writes the `ok` line of a run that came to its end.
 fn transcript<K: Sink>(
     alloc: Global,
     script: &Script,
+    ended: Result<Run, Halt>,
     out: &mut K,
 ) -> Result<Option<Expected>, Halt>
-    requires { IsGood script.now }
-    ensures told { HasTold script.now (HasRisen (K.faults out.old) (K.faults out.new)) (K.text out.old) (K.text out.new) result }
+    requires { IfOk ended (λ run. (order : Order) × (h : List NodeEntry) × HasCome order script.now [] h run.engine run.unmet) }
+    ensures told { (order : Order) (sound : ℕ → Bool) (h : List NodeEntry) (before : Option (List ℕ)) (risen : ℕ) → risen ≤ K.faults out.old → HasRunUnendedTo order sound script.now h (HasRisen risen (K.faults out.old)) before (K.text out.old) ended → HasTold order sound script.now h (HasRisen risen (K.faults out.new)) before (K.text out.new) result }
+    ensures stops { IfErr ended (λ halt. result ≡ Err halt) }
     ensures rises { K.faults out.old ≤ K.faults out.new }
 {
-    let run = unended(alloc, script, out)?;
+    let run = ended?;
     end(alloc, script, &run, out)
 }
 
@@ -66,25 +114,34 @@ fn transcript<K: Sink>(
 /// lines before the next command runs.
 pub fn unended<K: Sink>(alloc: Global, script: &Script, out: &mut K) -> Result<Run, Halt>
     requires { IsGood script.now }
-    ensures told { HasRunUnended script.now (HasRisen (K.faults out.old) (K.faults out.new)) (K.text out.old) (K.text out.new) result }
+    ensures told { HasRunUnended JobAfterJob all_sound script.now (HasRisen (K.faults out.old) (K.faults out.new)) (K.text out.old) (K.text out.new) result }
+    ensures rises { K.faults out.old ≤ K.faults out.new }
+{
+    let mut run = begin(alloc, script, out)?;
+    commands(alloc, script, &mut run, out)?;
+    Ok(run)
+}
+
+/// Writes the head lines, and makes the engine.
+pub fn begin<K: Sink>(alloc: Global, script: &Script, out: &mut K) -> Result<Run, Halt>
+    requires { IsGood script.now }
+    ensures begun { HasBegunWell script.now (HasRisen (K.faults out.old) (K.faults out.new)) (K.text out.old) (K.text out.new) result }
     ensures rises { K.faults out.old ≤ K.faults out.new }
 {
     let mut text = Seq::new(alloc);
     heads(alloc, &script.decls, &mut text)?;
     write(out, text.as_slice())?;
     let engine = Engine::new(alloc, &script.decls)?;
-    let mut run = Run {
+    Ok(Run {
         engine,
         unmet: None,
-    };
-    commands(alloc, script, &mut run, out)?;
-    Ok(run)
+    })
 }
 
 // Runs all commands, and writes each one's lines before the next runs.
 fn commands<K: Sink>(alloc: Global, script: &Script, run: &mut Run, out: &mut K) -> Result<(), Halt>
-    requires { HasCome script.now script.now.commands [] run.old.engine run.old.unmet }
-    ensures run { HasRunAll script.now (HasRisen (K.faults out.old) (K.faults out.new)) (K.text out.old) (K.text out.new) run.new.engine run.new.unmet result }
+    requires { HasCome JobAfterJob script.now script.now.commands [] run.old.engine run.old.unmet }
+    ensures run { HasRunAll JobAfterJob all_sound script.now (HasRisen (K.faults out.old) (K.faults out.new)) (K.text out.old) (K.text out.new) run.new.engine run.new.unmet result }
     ensures rises { K.faults out.old ≤ K.faults out.new }
 {
     let list = script.commands.as_slice();
@@ -162,16 +219,31 @@ pub fn end<K: Sink>(
     run: &Run,
     out: &mut K,
 ) -> Result<Option<Expected>, Halt>
-    requires { (h : List NodeEntry) × HasCome script.now [] h run.now.engine run.now.unmet }
+    requires { (order : Order) × (h : List NodeEntry) × HasCome order script.now [] h run.now.engine run.now.unmet }
     ensures told { (h : List NodeEntry) → Tells (declared_of script.now.decls.list) h run.now.engine → Writes (ok_line (length script.now.decls.list + length h)) (HasRisen (K.faults out.old) (K.faults out.new)) (K.text out.old) (K.text out.new) result }
     ensures unmet { IfOk result (IsExpected run.now.unmet) }
     ensures kept { result ≡ Err halts.NoMemory → K.text out.new ≡ K.text out.old }
     ensures rises { K.faults out.old ≤ K.faults out.new }
 {
     let lines = script.decls.list.as_slice().len() + run.engine.history().len();
+    close(alloc, lines, run.unmet, out)
+}
+
+/// Writes the `ok` line behind so many lines, and makes the line of what was not met.
+pub fn close<K: Sink>(
+    alloc: Global,
+    lines: usize,
+    unmet: Option<u64>,
+    out: &mut K,
+) -> Result<Option<Expected>, Halt>
+    ensures told { Writes (ok_line lines) (HasRisen (K.faults out.old) (K.faults out.new)) (K.text out.old) (K.text out.new) result }
+    ensures unmet { IfOk result (IsExpected unmet) }
+    ensures kept { result ≡ Err halts.NoMemory → K.text out.new ≡ K.text out.old }
+    ensures rises { K.faults out.old ≤ K.faults out.new }
+{
     let mut last = Seq::new(alloc);
     ok(lines as u64, &mut last)?;
-    let expected = to_tell(alloc, run.unmet)?;
+    let expected = to_tell(alloc, unmet)?;
     write(out, last.as_slice())?;
     Ok(expected)
 }

@@ -1,5 +1,6 @@
 // A script is run without its lines.
 ghost use Rattle.pr_script.specs.Good.{IsGood};
+ghost use Rattle.pr_story.specs.Scripts.{JobAfterJob};
 ghost use Rattle.pr_top.specs.Progress.{HasCome};
 ghost use Rattle.pr_top.specs.Silent.{HasEnded, HasRunSo};
 ghost use Rattle.std.specs.Prelude.{[]};
@@ -25,7 +26,7 @@ pub fn run_silently(alloc: Global, script: &Script) -> Result<Run, Halt>
 
 // Runs all commands.
 fn run_all(script: &Script, run: &mut Run) -> Result<(), Halt>
-    requires { HasCome script.now script.now.commands [] run.old.engine run.old.unmet }
+    requires { HasCome JobAfterJob script.now script.now.commands [] run.old.engine run.old.unmet }
     ensures { HasRunSo script.now run.new.engine run.new.unmet result }
 {
     let list = script.commands.as_slice();

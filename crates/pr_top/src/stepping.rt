@@ -2,27 +2,37 @@
 ghost use Rattle.pr_script.specs.Steps.{is_phase};
 ghost use Rattle.pr_script.specs.declared.command.Command.TheVariants as commands;
 ghost use Rattle.pr_script.specs.declared.script.Script.{Script};
-ghost use Rattle.pr_sim.specs.Commands.{IsNoLie};
 ghost use Rattle.pr_story.specs.History.{NodeEntry};
 ghost use Rattle.pr_text.specs.Histories.{first_of, is_met};
+ghost use Rattle.pr_top.specs.Carrying.{StepCarries};
 ghost use Rattle.pr_top.specs.Progress.{CanGoOn, HasCome, HasStepped, IsAlone};
 ghost use Rattle.pr_top.specs.Stopping.{IsWent};
+ghost use Rattle.pr_top.specs.Runs.{all_sound};
 ghost use Rattle.pr_top.specs.declared.stepping.Halt.TheVariants as halts;
-ghost use Rattle.std.specs.Prelude.{◌≡◌, ◌∷◌, List, None, Some, cond, not, true};
+ghost use Rattle.pr_story.specs.Scripts.{ByTime, JobAfterJob, Order};
+ghost use Rattle.std.specs.Prelude.{◌≡◌, ◌∷◌, ◌≤◌, ◌<◌, ◌+◌, ◌^◌, List, None, Some, cond, not, true};
 
 use pr_flow::Stop;
-use pr_script::{Command, Want, phase_len};
+use pr_script::{Bytes, Command, Want, phase_len};
 use pr_sim::Engine;
 use pr_stamps::NoMemory;
 use pr_story::Event;
 use pr_text::met;
-use pr_wires::TrueWires;
+use pr_wires::{TrueWires, Wires};
 
 /// Why a run did not come to the end of its script.
-#[derive(Clone, Copy)]
+#[derive(Drop)]
 pub enum Halt {
     WriteFault,
-    Worn { at: u64 },
+    Worn {
+        at: u64,
+    },
+    Lied {
+        stream: u32,
+        number: u64,
+        sent: Bytes,
+        got: Bytes,
+    },
     NoMemory,
 }
 
@@ -42,11 +52,11 @@ pub struct Run {
 }
 
 impl Run {
-    /// Runs the step that comes first, a command alone or a phase up to its `end`, and answers how many commands behind
-    /// the first one that took. Each wire is one in memory that never fails.
+    /// Runs the step that comes first in one thread, a command alone or a phase up to its `end`, and answers how many
+    /// commands behind the first one that took. Each wire is one in memory that never fails.
     pub fn step(&mut self, first: &(u64, Command), behind: &[(u64, Command)]) -> Result<usize, Halt>
-        requires { CanGoOn (first.now ∷ behind.now) self.old.engine self.old.unmet }
-        ensures { (s : Script) (h : List NodeEntry) → HasCome s (first.now ∷ behind.now) h self.old.engine self.old.unmet → HasStepped s (first.now ∷ behind.now) h self.new.engine self.new.unmet result }
+        requires { CanGoOn JobAfterJob (first.now ∷ behind.now) self.old.engine self.old.unmet }
+        ensures { (s : Script) (h : List NodeEntry) → HasCome JobAfterJob s (first.now ∷ behind.now) h self.old.engine self.old.unmet → HasStepped JobAfterJob all_sound s (first.now ∷ behind.now) h self.new.engine self.new.unmet result }
     {
         match &first.1 {
             Command::Expect { want } => {
@@ -54,26 +64,15 @@ impl Run {
                 Ok(0)
             }
             Command::Phase => self.phase(first, behind),
-            _ => self.alone(first, behind),
+            _ => self.alone(first, behind, &mut TrueWires::new()),
         }
     }
 
-    // Runs a command that is no expectation and begins no phase.
-    fn alone(&mut self, first: &(u64, Command), behind: &[(u64, Command)]) -> Result<usize, Halt>
-        requires come { CanGoOn (first.now ∷ behind.now) self.old.engine self.old.unmet }
-        requires alone { IsAlone first.now.1 }
-        ensures { (s : Script) (h : List NodeEntry) → HasCome s (first.now ∷ behind.now) h self.old.engine self.old.unmet → HasStepped s (first.now ∷ behind.now) h self.new.engine self.new.unmet result }
-    {
-        let _ = behind;
-        went(self.engine.step(&first.1, &mut TrueWires::new()))?;
-        Ok(0)
-    }
-
-    // Runs the phase whose first word this is.
+    // Runs the phase whose first word this is, its jobs one after the other.
     fn phase(&mut self, first: &(u64, Command), behind: &[(u64, Command)]) -> Result<usize, Halt>
-        requires come { CanGoOn (first.now ∷ behind.now) self.old.engine self.old.unmet }
+        requires come { CanGoOn JobAfterJob (first.now ∷ behind.now) self.old.engine self.old.unmet }
         requires phase { is_phase first.now.1 ≡ true }
-        ensures { (s : Script) (h : List NodeEntry) → HasCome s (first.now ∷ behind.now) h self.old.engine self.old.unmet → HasStepped s (first.now ∷ behind.now) h self.new.engine self.new.unmet result }
+        ensures { (s : Script) (h : List NodeEntry) → HasCome JobAfterJob s (first.now ∷ behind.now) h self.old.engine self.old.unmet → HasStepped JobAfterJob all_sound s (first.now ∷ behind.now) h self.new.engine self.new.unmet result }
     {
         let _ = first;
         let (inside, left) = behind.split_at(phase_len(behind));
@@ -81,10 +80,30 @@ impl Run {
         Ok(behind.len() - (left.len() - 1))
     }
 
-    // Judges the read that came last.
-    fn judge(&mut self, line: u64, want: &Want, behind: &[(u64, Command)])
-        requires { CanGoOn ((line, commands.Expect want.now) ∷ behind.now) self.old.engine self.old.unmet }
-        ensures { (s : Script) (h : List NodeEntry) → HasCome s ((line, commands.Expect want.now) ∷ behind.now) h self.old.engine self.old.unmet → HasCome s behind.now h self.new.engine self.new.unmet }
+    /// Runs a command that is no expectation and begins no phase, each flow over a wire of these.
+    pub fn alone<W: Wires>(
+        &mut self,
+        first: &(u64, Command),
+        behind: &[(u64, Command)],
+        wires: &mut W,
+    ) -> Result<usize, Halt>
+        requires come { (order : Order) × CanGoOn order (first.now ∷ behind.now) self.old.engine self.old.unmet }
+        requires alone { IsAlone first.now.1 }
+        requires few { W.made wires.old < 2 ^ 40 }
+        ensures steps { (order : Order) (s : Script) (h : List NodeEntry) → HasCome order s (first.now ∷ behind.now) h self.old.engine self.old.unmet → HasStepped order (W.sound wires.old) s (first.now ∷ behind.now) h self.new.engine self.new.unmet result }
+        ensures carried { (s : Script) (h : List NodeEntry) → HasCome ByTime s (first.now ∷ behind.now) h self.old.engine self.old.unmet → StepCarries s (first.now ∷ behind.now) h self.new.engine (W.carried wires.old) (W.carried wires.new) result }
+        ensures made { W.made wires.new ≤ W.made wires.old + 1 }
+        ensures sound { W.sound wires.new ≡ W.sound wires.old }
+    {
+        let _ = behind;
+        went(self.engine.step(&first.1, wires))?;
+        Ok(0)
+    }
+
+    /// Judges the read that came last.
+    pub fn judge(&mut self, line: u64, want: &Want, behind: &[(u64, Command)])
+        requires { (order : Order) × CanGoOn order ((line, commands.Expect want.now) ∷ behind.now) self.old.engine self.old.unmet }
+        ensures { (order : Order) (s : Script) (h : List NodeEntry) → HasCome order s ((line, commands.Expect want.now) ∷ behind.now) h self.old.engine self.old.unmet → HasCome order s behind.now h self.new.engine self.new.unmet }
     {
         let _ = behind;
         let last = self.engine.history().len() - 1;
@@ -106,14 +125,26 @@ fn judged(unmet: Option<u64>, line: u64, want: &Want, event: &Event) -> Option<u
     Some(line)
 }
 
-fn went(stop: Result<Stop, NoMemory>) -> Result<(), Halt>
-    requires { IsNoLie stop }
+/// The answer of a step as the run's.
+pub fn went(stop: Result<Stop, NoMemory>) -> Result<(), Halt>
     ensures { IsWent stop result }
 {
     match stop {
         Ok(Stop::Went) => Ok(()),
         Ok(Stop::Worn { at }) => Err(Halt::Worn { at }),
-        Ok(Stop::Lied { .. }) => unreachable!(),
+        Ok(
+            Stop::Lied {
+                stream,
+                number,
+                sent,
+                got,
+            },
+        ) => Err(Halt::Lied {
+            stream,
+            number,
+            sent,
+            got,
+        }),
         Err(NoMemory) => Err(Halt::NoMemory),
     }
 }

@@ -8,7 +8,8 @@ use Rattle.pr_words.specs.declared.job.Job.{Job}
 use Rattle.pr_words.specs.declared.job.Job.TheVariants as jobs
 use Rattle.pr_words.specs.declared.mode.Mode.{Mode}
 use Rattle.pr_words.specs.declared.mode.Mode.TheVariants as modes
-use Rattle.pr_words.specs.Numbers.{number_in, is_label}
+use Rattle.pr_script.specs.Fields.{number_in}
+use Rattle.pr_script.specs.Labels.{is_label}
 
 -- ---- single words
 

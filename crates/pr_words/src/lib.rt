@@ -8,7 +8,6 @@ mod job;
 mod law;
 mod mode;
 mod modes;
-mod number;
 mod reading;
 #[cfg(test)]
 mod tests;

@@ -1,6 +1,7 @@
 // The job of each mode.
 ghost use Rattle.pr_words.specs.Command.{of_given};
-ghost use Rattle.pr_words.specs.Numbers.{is_label, number_in};
+ghost use Rattle.pr_script.specs.Fields.{number_in};
+ghost use Rattle.pr_script.specs.Labels.{is_label};
 ghost use Rattle.pr_words.specs.Words.{Answers, alone, at_node, job_by, kept_by, made, made_by, node_by, stopped};
 ghost use Rattle.std.specs.Char.{is_ascii_alphanumeric};
 ghost use Rattle.std.specs.List.{list_all};
@@ -8,8 +9,8 @@ ghost use Rattle.std.specs.Prelude.{◌≡◌, None, if◌then◌else◌};
 
 use crate::given::Given;
 use crate::mode::Mode;
-use crate::number::number_within;
 use crate::{Bytes, Job, WordsFault};
+use pr_script::number_within;
 use pr_stamps::Seq;
 use std::alloc::Global;
 

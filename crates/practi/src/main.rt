@@ -1,9 +1,10 @@
 // Runs a script from standard input, and writes its transcript to standard output.
 #![tactic(auto)]
 
+use pr_crew::FreeGate;
 use pr_ports::{ReaderSource, WriterSink};
-use pr_top::{Status, practi};
-use pr_wires::TrueWires;
+use pr_top::{Status, practi, tell};
+use pr_wires::LoopWires;
 use std::alloc::AllocError;
 use std::env;
 use std::io::{self, ErrorKind};
@@ -12,10 +13,19 @@ use std::process::ExitCode;
 fn main(rt: HostRuntime) -> ExitCode {
     let mut script = ReaderSource::new(rt.reader());
     let mut out = WriterSink::new(io::writer(&rt));
-    let mut wires = TrueWires::new();
+    let mut wires = LoopWires::new(&rt);
     let status = match words(&rt) {
-        Ok(words) => practi(rt.alloc(), &words, &mut script, &mut out, &mut wires),
-        Err(status) => status,
+        Ok(words) => practi(
+            &rt,
+            rt.alloc(),
+            &words,
+            &mut script,
+            &mut out,
+            &mut wires,
+            &FreeGate,
+        ),
+        Err(Status::NoMemory) => tell(&mut out, Status::NoMemory, b"error no memory\n"),
+        Err(status) => tell(&mut out, status, b"error usage\n"),
     };
     ExitCode::from(status.number())
 }

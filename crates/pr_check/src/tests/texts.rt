@@ -23,7 +23,7 @@ fn judgement(alloc: Global, text: &[u8], at: usize) -> Option<Judgement> {
     let mut judge = TextJudge::new(alloc);
     judge.push(front).ok()?;
     judge.push(rest).ok()?;
-    judge.finish().ok()
+    Some(judge.finish().ok()?.judgement())
 }
 
 #[test]

@@ -11,20 +11,24 @@ const ASK: &[u8] = &[
 
 #[test]
 fn asks_of_a_node(rt: HostRuntime) -> Result<(), Fail> {
-    let alloc = rt.alloc();
-    let to_b = called(alloc, &["ask", "--node", "B"], SCRIPT, &SOUND)?;
+    let to_b = called(&rt, rt.alloc(), &["ask", "--node", "B"], SCRIPT, &SOUND)?;
     assert!(rt; to_b.0 == 0 && to_b.1.as_slice() == ASK);
-    let to_a = called(alloc, &["--node=A", "ask"], SCRIPT, &SOUND)?;
+    let to_a = called(&rt, rt.alloc(), &["--node=A", "ask"], SCRIPT, &SOUND)?;
     assert!(rt; to_a.0 == 0 && to_a.1.is_empty());
     Ok(())
 }
 
 #[test]
 fn asks_that_are_refused(rt: HostRuntime) -> Result<(), Fail> {
-    let alloc = rt.alloc();
-    let nobody = called(alloc, &["ask", "--node", "C"], SCRIPT, &SOUND)?;
+    let nobody = called(&rt, rt.alloc(), &["ask", "--node", "C"], SCRIPT, &SOUND)?;
     assert!(rt; nobody.0 == 12 && nobody.1.is_empty());
-    let bad = called(alloc, &["ask", "--node", "C"], b"node A\0\n", &SOUND)?;
+    let bad = called(
+        &rt,
+        rt.alloc(),
+        &["ask", "--node", "C"],
+        b"node A\0\n",
+        &SOUND,
+    )?;
     assert!(rt; bad.0 == 2 && bad.1.is_empty());
     Ok(())
 }

@@ -1,7 +1,9 @@
 // Asks and their answers, of a worked script.
 use super::{Ports, SOUND, called};
 use std::alloc::Global;
+use std::sync::Wait;
 use std::test::Fail;
+use std::thread::Threads;
 
 const SCRIPT: &[u8] = b"node A *\nnode B *\nclient c A\nstream s A B *\nwrite c a/x \"hi\"\n";
 
@@ -29,6 +31,7 @@ fn with(alloc: Global, behind: &[u8]) -> Result<Vec<u8>, Fail> {
 
 // What is written with this status, behind the lines of the script.
 fn pulls(
+    rt: &(impl Threads + Wait + Sync),
     alloc: Global,
     behind: &[u8],
     ports: &Ports,
@@ -36,6 +39,7 @@ fn pulls(
     last: &[u8],
 ) -> Result<bool, Fail> {
     let (number, text) = called(
+        rt,
         alloc,
         &["pull", "--node", "B"],
         &with(alloc, behind)?,
@@ -46,6 +50,7 @@ fn pulls(
 }
 
 fn serves(
+    rt: &(impl Threads + Wait + Sync),
     alloc: Global,
     behind: &[u8],
     ports: &Ports,
@@ -53,69 +58,74 @@ fn serves(
     answer: &[u8],
 ) -> Result<bool, Fail> {
     let input = with(alloc, behind)?;
-    let (number, text) = called(alloc, &["serve", "--node", "A"], &input, ports)?;
+    let (number, text) = called(rt, alloc, &["serve", "--node", "A"], &input, ports)?;
     Ok(number == status && text.as_slice() == answer)
 }
 
 #[test]
 fn asks_are_served(rt: HostRuntime) -> Result<(), Fail> {
-    let alloc = rt.alloc();
-    assert!(rt; serves(alloc, ASK, &SOUND, 0, ANSWER)?);
-    assert!(rt; serves(alloc, b"", &SOUND, 0, b"")?);
-    assert!(rt; serves(alloc, &ASK[..25], &SOUND, 11, b"")?);
+    assert!(rt; serves(&rt, rt.alloc(), ASK, &SOUND, 0, ANSWER)?);
+    assert!(rt; serves(&rt, rt.alloc(), b"", &SOUND, 0, b"")?);
+    assert!(rt; serves(&rt, rt.alloc(), &ASK[..25], &SOUND, 11, b"")?);
     let small = Ports {
         source: (7, &[]),
         sink: (5, &[]),
     };
-    assert!(rt; serves(alloc, ASK, &small, 0, ANSWER)?);
-    let (number, text) = called(alloc, &["serve", "--node", "C"], SCRIPT, &SOUND)?;
+    assert!(rt; serves(&rt, rt.alloc(), ASK, &small, 0, ANSWER)?);
+    let (number, text) = called(&rt, rt.alloc(), &["serve", "--node", "C"], SCRIPT, &SOUND)?;
     assert!(rt; number == 12 && text.is_empty());
-    let (number, text) = called(alloc, &["serve", "--node", "A"], b"x\0", &SOUND)?;
+    let (number, text) = called(&rt, rt.alloc(), &["serve", "--node", "A"], b"x\0", &SOUND)?;
     assert!(rt; number == 2 && text.is_empty());
     Ok(())
 }
 
 #[test]
 fn answers_are_pulled(rt: HostRuntime) -> Result<(), Fail> {
-    let alloc = rt.alloc();
     let whole = b"accept s 1 at A:1\nok 6\n";
-    assert!(rt; pulls(alloc, ANSWER, &SOUND, 0, whole)?);
-    assert!(rt; pulls(alloc, b"", &SOUND, 0, b"ok 5\n")?);
-    assert!(rt; pulls(alloc, &ANSWER[..55], &SOUND, 11, b"error bytes 0\n")?);
+    assert!(rt; pulls(&rt, rt.alloc(), ANSWER, &SOUND, 0, whole)?);
+    assert!(rt; pulls(&rt, rt.alloc(), b"", &SOUND, 0, b"ok 5\n")?);
+    assert!(rt;
+        pulls(
+            &rt,
+            rt.alloc(),
+            &ANSWER[..55],
+            &SOUND,
+            11,
+            b"error bytes 0\n"
+        )?
+    );
     let small = Ports {
         source: (7, &[]),
         sink: (5, &[]),
     };
-    assert!(rt; pulls(alloc, ANSWER, &small, 0, whole)?);
+    assert!(rt; pulls(&rt, rt.alloc(), ANSWER, &small, 0, whole)?);
     Ok(())
 }
 
 #[test]
 fn pulls_stop(rt: HostRuntime) -> Result<(), Fail> {
-    let alloc = rt.alloc();
-    let (number, text) = called(alloc, &["pull", "--node", "C"], SCRIPT, &SOUND)?;
+    let (number, text) = called(&rt, rt.alloc(), &["pull", "--node", "C"], SCRIPT, &SOUND)?;
     assert!(rt; number == 12 && text.as_slice() == b"error no node\n".as_slice());
-    let to_a = with(alloc, ANSWER)?;
-    let (number, text) = called(alloc, &["pull", "--node", "A"], &to_a, &SOUND)?;
+    let to_a = with(rt.alloc(), ANSWER)?;
+    let (number, text) = called(&rt, rt.alloc(), &["pull", "--node", "A"], &to_a, &SOUND)?;
     assert!(rt; number == 11 && text.as_slice().ends_with(b"error bytes 0\n"));
-    let (number, text) = called(alloc, &["pull", "--node", "B"], b"x\0", &SOUND)?;
+    let (number, text) = called(&rt, rt.alloc(), &["pull", "--node", "B"], b"x\0", &SOUND)?;
     assert!(rt; number == 2 && text.as_slice() == b"error line 1 why 2\n".as_slice());
     Ok(())
 }
 
 #[test]
 fn ports_fail(rt: HostRuntime) -> Result<(), Fail> {
-    let alloc = rt.alloc();
     let source = Ports {
         source: (62, &[2]),
         sink: (65536, &[]),
     };
-    assert!(rt; pulls(alloc, ANSWER, &source, 3, b"error read\n")?);
-    assert!(rt; serves(alloc, ASK, &source, 3, b"")?);
+    assert!(rt; pulls(&rt, rt.alloc(), ANSWER, &source, 3, b"error read\n")?);
+    assert!(rt; serves(&rt, rt.alloc(), ASK, &source, 3, b"")?);
     let sink = Ports {
         source: (4096, &[]),
         sink: (50, &[2]),
     };
-    assert!(rt; serves(alloc, ASK, &sink, 4, &ANSWER[..50])?);
+    assert!(rt; serves(&rt, rt.alloc(), ASK, &sink, 4, &ANSWER[..50])?);
     Ok(())
 }

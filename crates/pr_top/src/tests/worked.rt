@@ -139,48 +139,48 @@ const CUT_AND_CHECKPOINT_TEXT: &[u8] =
 
 #[test]
 fn filtering(rt: HostRuntime) -> Result<(), Fail> {
-    assert!(rt; gives(rt.alloc(), FILTERING, FILTERING_TEXT)?);
+    assert!(rt; gives(&rt, rt.alloc(), FILTERING, FILTERING_TEXT)?);
     Ok(())
 }
 
 #[test]
 fn lost_and_repeated(rt: HostRuntime) -> Result<(), Fail> {
-    assert!(rt; gives(rt.alloc(), LOST_AND_REPEATED, LOST_AND_REPEATED_TEXT)?);
+    assert!(rt; gives(&rt, rt.alloc(), LOST_AND_REPEATED, LOST_AND_REPEATED_TEXT)?);
     Ok(())
 }
 
 #[test]
 fn coarse_16(rt: HostRuntime) -> Result<(), Fail> {
-    assert!(rt; gives(rt.alloc(), COARSE_16, COARSE_16_TEXT)?);
+    assert!(rt; gives(&rt, rt.alloc(), COARSE_16, COARSE_16_TEXT)?);
     Ok(())
 }
 
 #[test]
 fn coarse_17(rt: HostRuntime) -> Result<(), Fail> {
-    assert!(rt; gives(rt.alloc(), COARSE_17, COARSE_17_TEXT)?);
+    assert!(rt; gives(&rt, rt.alloc(), COARSE_17, COARSE_17_TEXT)?);
     Ok(())
 }
 
 #[test]
 fn equal_clocks(rt: HostRuntime) -> Result<(), Fail> {
-    assert!(rt; gives(rt.alloc(), EQUAL_CLOCKS, EQUAL_CLOCKS_TEXT)?);
+    assert!(rt; gives(&rt, rt.alloc(), EQUAL_CLOCKS, EQUAL_CLOCKS_TEXT)?);
     Ok(())
 }
 
 #[test]
 fn late_stamp(rt: HostRuntime) -> Result<(), Fail> {
-    assert!(rt; gives(rt.alloc(), LATE_STAMP, LATE_STAMP_TEXT)?);
+    assert!(rt; gives(&rt, rt.alloc(), LATE_STAMP, LATE_STAMP_TEXT)?);
     Ok(())
 }
 
 #[test]
 fn ring(rt: HostRuntime) -> Result<(), Fail> {
-    assert!(rt; gives(rt.alloc(), RING, RING_TEXT)?);
+    assert!(rt; gives(&rt, rt.alloc(), RING, RING_TEXT)?);
     Ok(())
 }
 
 #[test]
 fn cut_and_checkpoint(rt: HostRuntime) -> Result<(), Fail> {
-    assert!(rt; gives(rt.alloc(), CUT_AND_CHECKPOINT, CUT_AND_CHECKPOINT_TEXT)?);
+    assert!(rt; gives(&rt, rt.alloc(), CUT_AND_CHECKPOINT, CUT_AND_CHECKPOINT_TEXT)?);
     Ok(())
 }

@@ -20,7 +20,7 @@ const BODIES_TEXT: &[u8] =
     read d a/x body 2@A at A:2\nidle s\nattach s at A:2\nsend s 5 body a/x 2@A \"new\"\n\
     accept s 5 at A:2\nread d a/x value 2@A \"new\" at A:2\nok 28\n";
 
-const PHASE: &[u8] =
+pub const PHASE: &[u8] =
     b"node A *\nnode B *\nclient c A\nclient d B\nstream s A B *\nstream t B A *\nattach s\n\
     attach t\nphase\nwrite c a/x \"1\"\nread c a/x\nwrite d a/y \"2\"\nflow s 4\nflow t 4\n\
     end\n";
@@ -142,37 +142,44 @@ const A_CLIENT_THAT_MOVES_TEXT: &[u8] =
 
 #[test]
 fn bodies(rt: HostRuntime) -> Result<(), Fail> {
-    assert!(rt; gives(rt.alloc(), BODIES, BODIES_TEXT)?);
+    assert!(rt; gives(&rt, rt.alloc(), BODIES, BODIES_TEXT)?);
     Ok(())
 }
 
 #[test]
 fn phase(rt: HostRuntime) -> Result<(), Fail> {
-    assert!(rt; gives(rt.alloc(), PHASE, PHASE_TEXT)?);
+    assert!(rt; gives(&rt, rt.alloc(), PHASE, PHASE_TEXT)?);
     Ok(())
 }
 
 #[test]
 fn home(rt: HostRuntime) -> Result<(), Fail> {
-    assert!(rt; gives(rt.alloc(), HOME, HOME_TEXT)?);
+    assert!(rt; gives(&rt, rt.alloc(), HOME, HOME_TEXT)?);
     Ok(())
 }
 
 #[test]
 fn bodies_in_name_order(rt: HostRuntime) -> Result<(), Fail> {
-    assert!(rt; gives(rt.alloc(), BODIES_IN_NAME_ORDER, BODIES_IN_NAME_ORDER_TEXT)?);
+    assert!(rt;
+        gives(
+            &rt,
+            rt.alloc(),
+            BODIES_IN_NAME_ORDER,
+            BODIES_IN_NAME_ORDER_TEXT
+        )?
+    );
     Ok(())
 }
 
 #[test]
 fn floor(rt: HostRuntime) -> Result<(), Fail> {
-    assert!(rt; gives(rt.alloc(), FLOOR, FLOOR_TEXT)?);
+    assert!(rt; gives(&rt, rt.alloc(), FLOOR, FLOOR_TEXT)?);
     Ok(())
 }
 
 #[test]
 fn deletes(rt: HostRuntime) -> Result<(), Fail> {
-    assert!(rt; gives(rt.alloc(), DELETES, DELETES_TEXT)?);
+    assert!(rt; gives(&rt, rt.alloc(), DELETES, DELETES_TEXT)?);
     Ok(())
 }
 
@@ -180,6 +187,7 @@ fn deletes(rt: HostRuntime) -> Result<(), Fail> {
 fn deleted_row_in_a_checkpoint(rt: HostRuntime) -> Result<(), Fail> {
     assert!(rt;
         gives(
+            &rt,
             rt.alloc(),
             DELETED_ROW_IN_A_CHECKPOINT,
             DELETED_ROW_IN_A_CHECKPOINT_TEXT
@@ -190,6 +198,13 @@ fn deleted_row_in_a_checkpoint(rt: HostRuntime) -> Result<(), Fail> {
 
 #[test]
 fn a_client_that_moves(rt: HostRuntime) -> Result<(), Fail> {
-    assert!(rt; gives(rt.alloc(), A_CLIENT_THAT_MOVES, A_CLIENT_THAT_MOVES_TEXT)?);
+    assert!(rt;
+        gives(
+            &rt,
+            rt.alloc(),
+            A_CLIENT_THAT_MOVES,
+            A_CLIENT_THAT_MOVES_TEXT
+        )?
+    );
     Ok(())
 }

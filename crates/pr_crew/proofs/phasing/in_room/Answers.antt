@@ -2,8 +2,9 @@ use Rattle.std.proofs.Common.{◌++◌, sym, subst, length, arith}
 use Rattle.pr_script.specs.Steps.{owners_of}
 use Rattle.pr_text.specs.Steps.{stream_job}
 use Rattle.pr_crew.specs.Phases.{SameAttached}
+use Rattle.pr_crew.proofs.Honest.{still_honest}
 use Rattle.pr_crew.proofs.Outcome.{can_append, jobs}
-use Rattle.pr_crew.proofs.Phased.{all_attached, all_here, all_represented, all_short, can_start, leaves, new_of}
+use Rattle.pr_crew.proofs.Phased.{all_attached, all_here, all_represented, all_short, can_start, carries, leaves, new_of}
 use Rattle.pr_crew.proofs.phasing.in_room.Goals as goal
 
 pub run-stop-requires-clause-can : goal.run-stop-requires-clause-can
@@ -25,9 +26,9 @@ append-requires g c =
         h,
         c.args.works.now,
         (length c.args.sites.cells.items),
-        (c.run-stop.ensures.ran d.plan h (owners_of c.args.inside.now) (stream_job c.args.inside.now) (can_start (λ d h. g.H.Held.records c.args.held.now d h) d h c.args.inside.now c.args.works.now c.args.sites was (g.H.Held.state c.args.held.now) o)).nodes,
-        jobs (λ d h. g.H.Held.records c.args.held.now d h) d h c.args.inside.now c.args.works.now (length c.args.sites.cells.items) was (g.H.Held.state c.args.held.now) (g.H.Held.state c.run-stop.new.held) c.run-stop.result o.planned o.beside (c.run-stop.ensures.ran d.plan h (owners_of c.args.inside.now) (stream_job c.args.inside.now) (can_start (λ d h. g.H.Held.records c.args.held.now d h) d h c.args.inside.now c.args.works.now c.args.sites was (g.H.Held.state c.args.held.now) o)),
-        can_append (λ d h. g.H.Held.records c.args.held.now d h) d h c.args.inside.now c.args.works.now (length c.args.sites.cells.items) was (g.H.Held.state c.args.held.now) (g.H.Held.state c.run-stop.new.held) c.run-stop.result o.planned o.beside (c.run-stop.ensures.ran d.plan h (owners_of c.args.inside.now) (stream_job c.args.inside.now) (can_start (λ d h. g.H.Held.records c.args.held.now d h) d h c.args.inside.now c.args.works.now c.args.sites was (g.H.Held.state c.args.held.now) o)),
+        (c.run-stop.ensures.ran d.plan h (owners_of c.args.inside.now) (stream_job c.args.inside.now) (can_start (λ d h. g.H.Held.records c.args.held.now d h) d h c.args.inside.now c.args.works.now c.args.sites was (g.H.Held.state c.args.held.now) o)).0.nodes,
+        jobs (λ d h. g.H.Held.records c.args.held.now d h) d h c.args.inside.now c.args.works.now (length c.args.sites.cells.items) was (g.H.Held.state c.args.held.now) (g.H.Held.state c.run-stop.new.held) c.run-stop.result o.planned o.beside (c.run-stop.ensures.ran d.plan h (owners_of c.args.inside.now) (stream_job c.args.inside.now) (can_start (λ d h. g.H.Held.records c.args.held.now d h) d h c.args.inside.now c.args.works.now c.args.sites was (g.H.Held.state c.args.held.now) o)).0,
+        can_append (λ d h. g.H.Held.records c.args.held.now d h) d h c.args.inside.now c.args.works.now (length c.args.sites.cells.items) was (g.H.Held.state c.args.held.now) (g.H.Held.state c.run-stop.new.held) c.run-stop.result o.planned o.beside (c.run-stop.ensures.ran d.plan h (owners_of c.args.inside.now) (stream_job c.args.inside.now) (can_start (λ d h. g.H.Held.records c.args.held.now d h) d h c.args.inside.now c.args.works.now c.args.sites was (g.H.Held.state c.args.held.now) o)).0,
         c.requires.fits,
         opening,
         λ n le. c.run-stop.ensures.places n (c.requires.history n le),
@@ -38,17 +39,24 @@ append-requires g c =
 pub working-requires : goal.working-requires
 working-requires g c =
     let (d, h, was, o, opening) = c.requires.out in
-    let all = all_represented (λ d h. g.H.Held.records c.args.held.now d h) d h c.args.inside.now c.args.works.now c.args.sites was (g.H.Held.state c.args.held.now) o (λ d h. g.H.Held.records c.append.new.held d h) (g.H.Held.state c.run-stop.new.held) (g.H.Held.state c.append.new.held) c.run-stop.result (c.run-stop.ensures.ran d.plan h (owners_of c.args.inside.now) (stream_job c.args.inside.now) (can_start (λ d h. g.H.Held.records c.args.held.now d h) d h c.args.inside.now c.args.works.now c.args.sites was (g.H.Held.state c.args.held.now) o)) (c.append.ensures.appended d h c.args.works.now (length c.args.sites.cells.items) (c.run-stop.ensures.ran d.plan h (owners_of c.args.inside.now) (stream_job c.args.inside.now) (can_start (λ d h. g.H.Held.records c.args.held.now d h) d h c.args.inside.now c.args.works.now c.args.sites was (g.H.Held.state c.args.held.now) o)).nodes (jobs (λ d h. g.H.Held.records c.args.held.now d h) d h c.args.inside.now c.args.works.now (length c.args.sites.cells.items) was (g.H.Held.state c.args.held.now) (g.H.Held.state c.run-stop.new.held) c.run-stop.result o.planned o.beside (c.run-stop.ensures.ran d.plan h (owners_of c.args.inside.now) (stream_job c.args.inside.now) (can_start (λ d h. g.H.Held.records c.args.held.now d h) d h c.args.inside.now c.args.works.now c.args.sites was (g.H.Held.state c.args.held.now) o))) (can_append (λ d h. g.H.Held.records c.args.held.now d h) d h c.args.inside.now c.args.works.now (length c.args.sites.cells.items) was (g.H.Held.state c.args.held.now) (g.H.Held.state c.run-stop.new.held) c.run-stop.result o.planned o.beside (c.run-stop.ensures.ran d.plan h (owners_of c.args.inside.now) (stream_job c.args.inside.now) (can_start (λ d h. g.H.Held.records c.args.held.now d h) d h c.args.inside.now c.args.works.now c.args.sites was (g.H.Held.state c.args.held.now) o))) c.requires.fits opening (c.run-stop.ensures.records d h o.planned.represents.records_are)) in
+    let all = all_represented (λ d h. g.H.Held.records c.args.held.now d h) d h c.args.inside.now c.args.works.now c.args.sites was (g.H.Held.state c.args.held.now) o (λ d h. g.H.Held.records c.append.new.held d h) (g.H.Held.state c.run-stop.new.held) (g.H.Held.state c.append.new.held) c.run-stop.result (c.run-stop.ensures.ran d.plan h (owners_of c.args.inside.now) (stream_job c.args.inside.now) (can_start (λ d h. g.H.Held.records c.args.held.now d h) d h c.args.inside.now c.args.works.now c.args.sites was (g.H.Held.state c.args.held.now) o)).0 (c.append.ensures.appended d h c.args.works.now (length c.args.sites.cells.items) (c.run-stop.ensures.ran d.plan h (owners_of c.args.inside.now) (stream_job c.args.inside.now) (can_start (λ d h. g.H.Held.records c.args.held.now d h) d h c.args.inside.now c.args.works.now c.args.sites was (g.H.Held.state c.args.held.now) o)).0.nodes (jobs (λ d h. g.H.Held.records c.args.held.now d h) d h c.args.inside.now c.args.works.now (length c.args.sites.cells.items) was (g.H.Held.state c.args.held.now) (g.H.Held.state c.run-stop.new.held) c.run-stop.result o.planned o.beside (c.run-stop.ensures.ran d.plan h (owners_of c.args.inside.now) (stream_job c.args.inside.now) (can_start (λ d h. g.H.Held.records c.args.held.now d h) d h c.args.inside.now c.args.works.now c.args.sites was (g.H.Held.state c.args.held.now) o)).0) (can_append (λ d h. g.H.Held.records c.args.held.now d h) d h c.args.inside.now c.args.works.now (length c.args.sites.cells.items) was (g.H.Held.state c.args.held.now) (g.H.Held.state c.run-stop.new.held) c.run-stop.result o.planned o.beside (c.run-stop.ensures.ran d.plan h (owners_of c.args.inside.now) (stream_job c.args.inside.now) (can_start (λ d h. g.H.Held.records c.args.held.now d h) d h c.args.inside.now c.args.works.now c.args.sites was (g.H.Held.state c.args.held.now) o)).0) c.requires.fits opening (c.run-stop.ensures.records d h o.planned.represents.records_are)) in
     let many = all.many_nodes in
     let before = o.planned.represents.many_nodes in
     let few = o.planned.can.nodes in (
       omega (arith, many, before, few),
-      all_here (λ d h. g.H.Held.records c.append.new.held d h) d (new_of (λ d h. g.H.Held.records c.args.held.now d h) d h c.args.inside.now c.args.works.now c.args.sites was (g.H.Held.state c.args.held.now) o (λ d h. g.H.Held.records c.append.new.held d h) (g.H.Held.state c.run-stop.new.held) (g.H.Held.state c.append.new.held) c.run-stop.result (c.run-stop.ensures.ran d.plan h (owners_of c.args.inside.now) (stream_job c.args.inside.now) (can_start (λ d h. g.H.Held.records c.args.held.now d h) d h c.args.inside.now c.args.works.now c.args.sites was (g.H.Held.state c.args.held.now) o)) (c.append.ensures.appended d h c.args.works.now (length c.args.sites.cells.items) (c.run-stop.ensures.ran d.plan h (owners_of c.args.inside.now) (stream_job c.args.inside.now) (can_start (λ d h. g.H.Held.records c.args.held.now d h) d h c.args.inside.now c.args.works.now c.args.sites was (g.H.Held.state c.args.held.now) o)).nodes (jobs (λ d h. g.H.Held.records c.args.held.now d h) d h c.args.inside.now c.args.works.now (length c.args.sites.cells.items) was (g.H.Held.state c.args.held.now) (g.H.Held.state c.run-stop.new.held) c.run-stop.result o.planned o.beside (c.run-stop.ensures.ran d.plan h (owners_of c.args.inside.now) (stream_job c.args.inside.now) (can_start (λ d h. g.H.Held.records c.args.held.now d h) d h c.args.inside.now c.args.works.now c.args.sites was (g.H.Held.state c.args.held.now) o))) (can_append (λ d h. g.H.Held.records c.args.held.now d h) d h c.args.inside.now c.args.works.now (length c.args.sites.cells.items) was (g.H.Held.state c.args.held.now) (g.H.Held.state c.run-stop.new.held) c.run-stop.result o.planned o.beside (c.run-stop.ensures.ran d.plan h (owners_of c.args.inside.now) (stream_job c.args.inside.now) (can_start (λ d h. g.H.Held.records c.args.held.now d h) d h c.args.inside.now c.args.works.now c.args.sites was (g.H.Held.state c.args.held.now) o))) c.requires.fits opening (c.run-stop.ensures.records d h o.planned.represents.records_are)) ++ h) (g.H.Held.state c.append.new.held) all,
+      all_here (λ d h. g.H.Held.records c.append.new.held d h) d (new_of (λ d h. g.H.Held.records c.args.held.now d h) d h c.args.inside.now c.args.works.now c.args.sites was (g.H.Held.state c.args.held.now) o (λ d h. g.H.Held.records c.append.new.held d h) (g.H.Held.state c.run-stop.new.held) (g.H.Held.state c.append.new.held) c.run-stop.result (c.run-stop.ensures.ran d.plan h (owners_of c.args.inside.now) (stream_job c.args.inside.now) (can_start (λ d h. g.H.Held.records c.args.held.now d h) d h c.args.inside.now c.args.works.now c.args.sites was (g.H.Held.state c.args.held.now) o)).0 (c.append.ensures.appended d h c.args.works.now (length c.args.sites.cells.items) (c.run-stop.ensures.ran d.plan h (owners_of c.args.inside.now) (stream_job c.args.inside.now) (can_start (λ d h. g.H.Held.records c.args.held.now d h) d h c.args.inside.now c.args.works.now c.args.sites was (g.H.Held.state c.args.held.now) o)).0.nodes (jobs (λ d h. g.H.Held.records c.args.held.now d h) d h c.args.inside.now c.args.works.now (length c.args.sites.cells.items) was (g.H.Held.state c.args.held.now) (g.H.Held.state c.run-stop.new.held) c.run-stop.result o.planned o.beside (c.run-stop.ensures.ran d.plan h (owners_of c.args.inside.now) (stream_job c.args.inside.now) (can_start (λ d h. g.H.Held.records c.args.held.now d h) d h c.args.inside.now c.args.works.now c.args.sites was (g.H.Held.state c.args.held.now) o)).0) (can_append (λ d h. g.H.Held.records c.args.held.now d h) d h c.args.inside.now c.args.works.now (length c.args.sites.cells.items) was (g.H.Held.state c.args.held.now) (g.H.Held.state c.run-stop.new.held) c.run-stop.result o.planned o.beside (c.run-stop.ensures.ran d.plan h (owners_of c.args.inside.now) (stream_job c.args.inside.now) (can_start (λ d h. g.H.Held.records c.args.held.now d h) d h c.args.inside.now c.args.works.now c.args.sites was (g.H.Held.state c.args.held.now) o)).0) c.requires.fits opening (c.run-stop.ensures.records d h o.planned.represents.records_are)) ++ h) (g.H.Held.state c.append.new.held) all,
     )
 
 pub returns-clause-leaves : goal.returns-clause-leaves
 returns-clause-leaves g c d h was o opening =
-    leaves (λ d h. g.H.Held.records c.args.held.now d h) d h c.args.inside.now c.args.works.now c.args.sites was (g.H.Held.state c.args.held.now) o (λ d h. g.H.Held.records c.append.new.held d h) (g.H.Held.state c.run-stop.new.held) (g.H.Held.state c.append.new.held) c.run-stop.result (c.run-stop.ensures.ran d.plan h (owners_of c.args.inside.now) (stream_job c.args.inside.now) (can_start (λ d h. g.H.Held.records c.args.held.now d h) d h c.args.inside.now c.args.works.now c.args.sites was (g.H.Held.state c.args.held.now) o)) (c.append.ensures.appended d h c.args.works.now (length c.args.sites.cells.items) (c.run-stop.ensures.ran d.plan h (owners_of c.args.inside.now) (stream_job c.args.inside.now) (can_start (λ d h. g.H.Held.records c.args.held.now d h) d h c.args.inside.now c.args.works.now c.args.sites was (g.H.Held.state c.args.held.now) o)).nodes (jobs (λ d h. g.H.Held.records c.args.held.now d h) d h c.args.inside.now c.args.works.now (length c.args.sites.cells.items) was (g.H.Held.state c.args.held.now) (g.H.Held.state c.run-stop.new.held) c.run-stop.result o.planned o.beside (c.run-stop.ensures.ran d.plan h (owners_of c.args.inside.now) (stream_job c.args.inside.now) (can_start (λ d h. g.H.Held.records c.args.held.now d h) d h c.args.inside.now c.args.works.now c.args.sites was (g.H.Held.state c.args.held.now) o))) (can_append (λ d h. g.H.Held.records c.args.held.now d h) d h c.args.inside.now c.args.works.now (length c.args.sites.cells.items) was (g.H.Held.state c.args.held.now) (g.H.Held.state c.run-stop.new.held) c.run-stop.result o.planned o.beside (c.run-stop.ensures.ran d.plan h (owners_of c.args.inside.now) (stream_job c.args.inside.now) (can_start (λ d h. g.H.Held.records c.args.held.now d h) d h c.args.inside.now c.args.works.now c.args.sites was (g.H.Held.state c.args.held.now) o))) c.requires.fits opening (c.run-stop.ensures.records d h o.planned.represents.records_are)) (λ d h. g.H.Held.records c.working.new.held d h) c.working.result (g.H.Held.state c.working.new.held) c.working.ensures.state (λ e keeps. c.working.ensures.records d e keeps) c.working.ensures.stop
+    leaves (λ d h. g.H.Held.records c.args.held.now d h) d h c.args.inside.now c.args.works.now c.args.sites was (g.H.Held.state c.args.held.now) o (λ d h. g.H.Held.records c.append.new.held d h) (g.H.Held.state c.run-stop.new.held) (g.H.Held.state c.append.new.held) c.run-stop.result (c.run-stop.ensures.ran d.plan h (owners_of c.args.inside.now) (stream_job c.args.inside.now) (can_start (λ d h. g.H.Held.records c.args.held.now d h) d h c.args.inside.now c.args.works.now c.args.sites was (g.H.Held.state c.args.held.now) o)).0 (c.append.ensures.appended d h c.args.works.now (length c.args.sites.cells.items) (c.run-stop.ensures.ran d.plan h (owners_of c.args.inside.now) (stream_job c.args.inside.now) (can_start (λ d h. g.H.Held.records c.args.held.now d h) d h c.args.inside.now c.args.works.now c.args.sites was (g.H.Held.state c.args.held.now) o)).0.nodes (jobs (λ d h. g.H.Held.records c.args.held.now d h) d h c.args.inside.now c.args.works.now (length c.args.sites.cells.items) was (g.H.Held.state c.args.held.now) (g.H.Held.state c.run-stop.new.held) c.run-stop.result o.planned o.beside (c.run-stop.ensures.ran d.plan h (owners_of c.args.inside.now) (stream_job c.args.inside.now) (can_start (λ d h. g.H.Held.records c.args.held.now d h) d h c.args.inside.now c.args.works.now c.args.sites was (g.H.Held.state c.args.held.now) o)).0) (can_append (λ d h. g.H.Held.records c.args.held.now d h) d h c.args.inside.now c.args.works.now (length c.args.sites.cells.items) was (g.H.Held.state c.args.held.now) (g.H.Held.state c.run-stop.new.held) c.run-stop.result o.planned o.beside (c.run-stop.ensures.ran d.plan h (owners_of c.args.inside.now) (stream_job c.args.inside.now) (can_start (λ d h. g.H.Held.records c.args.held.now d h) d h c.args.inside.now c.args.works.now c.args.sites was (g.H.Held.state c.args.held.now) o)).0) c.requires.fits opening (c.run-stop.ensures.records d h o.planned.represents.records_are)) (λ d h. g.H.Held.records c.working.new.held d h) c.working.result (g.H.Held.state c.working.new.held) c.working.ensures.state (λ e keeps. c.working.ensures.records d e keeps) c.working.ensures.stop
 
 pub returns-clause-attached : goal.returns-clause-attached
-returns-clause-attached g c d h was o opening = subst (λ s. SameAttached was s) (sym c.working.ensures.state) (all_attached (λ d h. g.H.Held.records c.args.held.now d h) d h c.args.inside.now c.args.works.now c.args.sites was (g.H.Held.state c.args.held.now) o (λ d h. g.H.Held.records c.append.new.held d h) (g.H.Held.state c.run-stop.new.held) (g.H.Held.state c.append.new.held) c.run-stop.result (c.run-stop.ensures.ran d.plan h (owners_of c.args.inside.now) (stream_job c.args.inside.now) (can_start (λ d h. g.H.Held.records c.args.held.now d h) d h c.args.inside.now c.args.works.now c.args.sites was (g.H.Held.state c.args.held.now) o)) (c.append.ensures.appended d h c.args.works.now (length c.args.sites.cells.items) (c.run-stop.ensures.ran d.plan h (owners_of c.args.inside.now) (stream_job c.args.inside.now) (can_start (λ d h. g.H.Held.records c.args.held.now d h) d h c.args.inside.now c.args.works.now c.args.sites was (g.H.Held.state c.args.held.now) o)).nodes (jobs (λ d h. g.H.Held.records c.args.held.now d h) d h c.args.inside.now c.args.works.now (length c.args.sites.cells.items) was (g.H.Held.state c.args.held.now) (g.H.Held.state c.run-stop.new.held) c.run-stop.result o.planned o.beside (c.run-stop.ensures.ran d.plan h (owners_of c.args.inside.now) (stream_job c.args.inside.now) (can_start (λ d h. g.H.Held.records c.args.held.now d h) d h c.args.inside.now c.args.works.now c.args.sites was (g.H.Held.state c.args.held.now) o))) (can_append (λ d h. g.H.Held.records c.args.held.now d h) d h c.args.inside.now c.args.works.now (length c.args.sites.cells.items) was (g.H.Held.state c.args.held.now) (g.H.Held.state c.run-stop.new.held) c.run-stop.result o.planned o.beside (c.run-stop.ensures.ran d.plan h (owners_of c.args.inside.now) (stream_job c.args.inside.now) (can_start (λ d h. g.H.Held.records c.args.held.now d h) d h c.args.inside.now c.args.works.now c.args.sites was (g.H.Held.state c.args.held.now) o))) c.requires.fits opening (c.run-stop.ensures.records d h o.planned.represents.records_are)))
+returns-clause-attached g c d h was o opening = subst (λ s. SameAttached was s) (sym c.working.ensures.state) (all_attached (λ d h. g.H.Held.records c.args.held.now d h) d h c.args.inside.now c.args.works.now c.args.sites was (g.H.Held.state c.args.held.now) o (λ d h. g.H.Held.records c.append.new.held d h) (g.H.Held.state c.run-stop.new.held) (g.H.Held.state c.append.new.held) c.run-stop.result (c.run-stop.ensures.ran d.plan h (owners_of c.args.inside.now) (stream_job c.args.inside.now) (can_start (λ d h. g.H.Held.records c.args.held.now d h) d h c.args.inside.now c.args.works.now c.args.sites was (g.H.Held.state c.args.held.now) o)).0 (c.append.ensures.appended d h c.args.works.now (length c.args.sites.cells.items) (c.run-stop.ensures.ran d.plan h (owners_of c.args.inside.now) (stream_job c.args.inside.now) (can_start (λ d h. g.H.Held.records c.args.held.now d h) d h c.args.inside.now c.args.works.now c.args.sites was (g.H.Held.state c.args.held.now) o)).0.nodes (jobs (λ d h. g.H.Held.records c.args.held.now d h) d h c.args.inside.now c.args.works.now (length c.args.sites.cells.items) was (g.H.Held.state c.args.held.now) (g.H.Held.state c.run-stop.new.held) c.run-stop.result o.planned o.beside (c.run-stop.ensures.ran d.plan h (owners_of c.args.inside.now) (stream_job c.args.inside.now) (can_start (λ d h. g.H.Held.records c.args.held.now d h) d h c.args.inside.now c.args.works.now c.args.sites was (g.H.Held.state c.args.held.now) o)).0) (can_append (λ d h. g.H.Held.records c.args.held.now d h) d h c.args.inside.now c.args.works.now (length c.args.sites.cells.items) was (g.H.Held.state c.args.held.now) (g.H.Held.state c.run-stop.new.held) c.run-stop.result o.planned o.beside (c.run-stop.ensures.ran d.plan h (owners_of c.args.inside.now) (stream_job c.args.inside.now) (can_start (λ d h. g.H.Held.records c.args.held.now d h) d h c.args.inside.now c.args.works.now c.args.sites was (g.H.Held.state c.args.held.now) o)).0) c.requires.fits opening (c.run-stop.ensures.records d h o.planned.represents.records_are)))
+
+pub returns-clause-no_lie : goal.returns-clause-no_lie
+returns-clause-no_lie g c all = still_honest c.run-stop.result c.working.result c.working.ensures.stop (c.run-stop.ensures.no_lie all)
+
+pub returns-clause-carried : goal.returns-clause-carried
+returns-clause-carried g c d h was o opening =
+    carries (λ d h. g.H.Held.records c.args.held.now d h) d h c.args.inside.now c.args.works.now c.args.sites was (g.H.Held.state c.args.held.now) o (λ d h. g.H.Held.records c.append.new.held d h) (g.H.Held.state c.run-stop.new.held) (g.H.Held.state c.append.new.held) c.run-stop.result (c.run-stop.ensures.ran d.plan h (owners_of c.args.inside.now) (stream_job c.args.inside.now) (can_start (λ d h. g.H.Held.records c.args.held.now d h) d h c.args.inside.now c.args.works.now c.args.sites was (g.H.Held.state c.args.held.now) o)).0 (c.append.ensures.appended d h c.args.works.now (length c.args.sites.cells.items) (c.run-stop.ensures.ran d.plan h (owners_of c.args.inside.now) (stream_job c.args.inside.now) (can_start (λ d h. g.H.Held.records c.args.held.now d h) d h c.args.inside.now c.args.works.now c.args.sites was (g.H.Held.state c.args.held.now) o)).0.nodes (jobs (λ d h. g.H.Held.records c.args.held.now d h) d h c.args.inside.now c.args.works.now (length c.args.sites.cells.items) was (g.H.Held.state c.args.held.now) (g.H.Held.state c.run-stop.new.held) c.run-stop.result o.planned o.beside (c.run-stop.ensures.ran d.plan h (owners_of c.args.inside.now) (stream_job c.args.inside.now) (can_start (λ d h. g.H.Held.records c.args.held.now d h) d h c.args.inside.now c.args.works.now c.args.sites was (g.H.Held.state c.args.held.now) o)).0) (can_append (λ d h. g.H.Held.records c.args.held.now d h) d h c.args.inside.now c.args.works.now (length c.args.sites.cells.items) was (g.H.Held.state c.args.held.now) (g.H.Held.state c.run-stop.new.held) c.run-stop.result o.planned o.beside (c.run-stop.ensures.ran d.plan h (owners_of c.args.inside.now) (stream_job c.args.inside.now) (can_start (λ d h. g.H.Held.records c.args.held.now d h) d h c.args.inside.now c.args.works.now c.args.sites was (g.H.Held.state c.args.held.now) o)).0) c.requires.fits opening (c.run-stop.ensures.records d h o.planned.represents.records_are)) (λ d h. g.H.Held.records c.working.new.held d h) c.working.result (g.H.Held.state c.working.new.held) c.working.ensures.state (λ e keeps. c.working.ensures.records d e keeps) c.working.ensures.stop (g.W.Wires.carried c.args.wires.now) (g.W.Wires.carried c.run-stop.new.wires) (c.run-stop.ensures.ran d.plan h (owners_of c.args.inside.now) (stream_job c.args.inside.now) (can_start (λ d h. g.H.Held.records c.args.held.now d h) d h c.args.inside.now c.args.works.now c.args.sites was (g.H.Held.state c.args.held.now) o)).1

@@ -1,6 +1,6 @@
 use Rattle.std.proofs.Common.{rules, ◌≤◌, subst, inr, arith}
 use Rattle.pr_crew.specs.Rooms.{total_at}
-use Rattle.pr_crew.proofs.Phased.{back_again, beside_both, fresh_close, fresh_here, nodes_here, out_of, refused}
+use Rattle.pr_crew.proofs.Phased.{back_again, beside_both, fresh_close, fresh_here, nodes_here, none_carried, out_of, refused}
 use Rattle.pr_crew.proofs.phasing.over_cells.Goals as goal
 
 pub open-requires-clause-here : goal.open-requires-clause-here
@@ -33,3 +33,10 @@ returns-in-Err-clause-leaves g c d h p =
     inr (back_again (λ d h. g.H.Held.records c.args.held.now d h) (λ d h. g.H.Held.records c.close.new.held d h) d h (g.H.Held.state c.args.held.now) (g.H.Held.state c.close.new.held) (λ keeps. c.close.ensures.records d h (c.open.ensures.records d h keeps)) p.represents
     (beside_both (g.H.Held.state c.args.held.now) (g.H.Held.state c.open.new.held) (g.H.Held.state c.close.new.held) c.open.ensures.beside c.close.ensures.beside)
     (λ n lt. fresh_here d.plan h _ c.in_ok-sites.sites (g.H.Held.state c.close.new.held) n ((c.in_ok-sites.ensures.opened d.plan h (λ n lt. nodes_here (λ d h. g.H.Held.records c.args.held.now d h) d h (g.H.Held.state c.args.held.now) p.represents n (let many = p.many in omega (arith, lt, many)))) n (let many = p.many in omega (arith, lt, many))) (λ e q site of_node. c.close.ensures.closed d.plan h n e q site of_node)))
+
+pub returns-in_err-sites-clause-carried : goal.returns-in_err-sites-clause-carried
+returns-in_err-sites-clause-carried g c d h p =
+    none_carried (λ d h. g.H.Held.records c.open.new.held d h) d h c.args.inside.now (g.H.Held.state c.open.new.held) (g.W.Wires.carried c.args.wires.now) (g.W.Wires.carried c.args.wires.now) c.from_residual.result c.in_err-sites.field-0.0 (search rules)
+
+pub returns-in-Ok-clause-carried : goal.returns-in-Ok-clause-carried
+returns-in-Ok-clause-carried g c d h p = c.in_room.ensures.carried d h (g.H.Held.state c.args.held.now) (out_of (λ d h. g.H.Held.records c.args.held.now d h) (λ d h. g.H.Held.records c.open.new.held d h) d h c.args.inside.now c.args.works.now c.args.count _ c.in_ok-sites.sites (g.H.Held.state c.args.held.now) (g.H.Held.state c.open.new.held) (λ keeps. c.open.ensures.records d h keeps) p c.in_ok-sites.ensures.many.0 c.open.ensures.beside (c.in_ok-sites.ensures.opened d.plan h (λ n lt. nodes_here (λ d h. g.H.Held.records c.args.held.now d h) d h (g.H.Held.state c.args.held.now) p.represents n (let many = p.many in omega (arith, lt, many)))) (search rules) c.in_ok-sites.ensures.out) (λ n any lt. c.requires.opening d h p n any (let many = c.in_ok-sites.ensures.many.0 in omega (arith, lt, many)))

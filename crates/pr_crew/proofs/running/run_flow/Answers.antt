@@ -22,4 +22,4 @@ returns-clause-passes g c =
     let r = c.requires.ready in
     passes_ran r.0 r.1 c.args.cells.now g.W.Wire.state t c.index-cells-work.result c.index-cells-work-2.result w.from w.to w.session r.2 (sym c.take.ensures.value ∙ w.is-0) (sym c.take-2.ensures.value ∙ w.is-1)
     (sym c.take-3.ensures.value ∙ w.is-2) c.index-cells-work.is c.index-cells-work-2.is c.new-source.result c.new-destination.result c.new-source.ensures c.new-destination.ensures 0 c.drive-end.new.source c.drive-end.new.destination c.drive-end.new.session c.take_pass.result c.take_pass-2.result c.drive-end.result
-    (c.drive-end.ensures.done r.0 r.1 t.work.stream 0) c.take_pass.ensures.taken c.take_pass-2.ensures.taken
+    (λ begins. (c.drive-end.ensures.done r.0 r.1 t.work.stream 0 begins).0) c.take_pass.ensures.taken c.take_pass-2.ensures.taken

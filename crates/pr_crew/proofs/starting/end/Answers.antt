@@ -2,6 +2,7 @@ use Rattle.std.proofs.Common.{rules, ◌≡◌, ◌+◌, ◌++◌, ℕ, ap, ◌�
 use Rattle.std.specs.Prelude.{map, sum_by}
 use Rattle.std.specs.Option.{option_to_list}
 use Rattle.std.proofs.lemmas.List.Sums.{sum_by-cons}
+use Rattle.pr_crew.specs.Crossing.{AreClosed}
 use Rattle.pr_crew.specs.Starting.{HaveEnded}
 use Rattle.pr_crew.specs.Tasks.{first_of_two, first_stop, stop_of, wires_of}
 use Rattle.pr_crew.proofs.Ends.{can_end, first_of_three, first_of_went, none_ended, one_ended}
@@ -22,6 +23,7 @@ loop-task-init g c = (
   refl,
   refl,
   refl,
+  λ now closed. closed,
 )
 
 pub end_one-next-requires-clause-can : goal.end_one-next-requires-clause-can
@@ -68,6 +70,8 @@ loop-task-preserved g c =
       c.end_one-next.ensures.same.0 ∙ inv.9,
       c.end_one-next.ensures.same.1 ∙ inv.10,
       c.end_one-next.ensures.same.2 ∙ inv.11,
+      λ now closed. inv.12 now (subst (λ l. AreClosed g.W.Wire.Wire.state l (g.W.Wires.carried c.loop-task.wires) now) (sym last.3)
+          (g.W.Wires.carried c.end_one-next.new.wires, c.end_one-next.ensures.carried, closed)),
     )
 
 pub returns-clause-ended : goal.returns-clause-ended
@@ -83,3 +87,10 @@ returns-clause-stop g c =
     let none : length c.loop-task.tasks.items ≡ 0 = search rules in
     let left = nothing_left (drop inv.0 c.args.tasks.items) (ap (λ ts. length ts) (sym inv.1) ∙ none) in
     sym (first_of_went c.loop-task.stop) ∙ ap (λ ts. first_of_two c.loop-task.stop (first_stop (map stop_of ts))) (sym left) ∙ inv.5
+
+pub returns-clause-carried : goal.returns-clause-carried
+returns-clause-carried g c =
+    let inv = c.loop-task.invariant in
+    let none : length c.loop-task.tasks.items ≡ 0 = search rules in
+    let left = nothing_left (drop inv.0 c.args.tasks.items) (ap (λ ts. length ts) (sym inv.1) ∙ none) in
+    inv.12 (g.W.Wires.carried c.loop-task.wires) (subst (λ ts. AreClosed g.W.Wire.Wire.state ts (g.W.Wires.carried c.loop-task.wires) (g.W.Wires.carried c.loop-task.wires)) (sym left) refl)

@@ -1,7 +1,8 @@
 use Rattle.std.proofs.Common.{◌≡◌, ◌≤◌, ◌+◌, ℕ, List, drop, length, reverse}
-use Rattle.std.specs.Prelude.{map, sum_by}
+use Rattle.std.specs.Prelude.{Option, map, sum_by}
 use Rattle.pr_story.specs.Counts.{Declared}
 use Rattle.pr_story.specs.History.{NodeEntry, Plan}
+use Rattle.pr_crew.specs.Crossing.{AreClosed}
 use Rattle.pr_crew.specs.Starting.{CanEnd, HaveEnded}
 use Rattle.pr_crew.specs.Tasks.{first_of_two, first_stop, stop_of, wires_of}
 use Rattle.pr_crew.proofs.starting.end.Given as goal
@@ -17,6 +18,8 @@ invariant-loop-task g l = (i : ℕ) × (l.tasks.items ≡ reverse (drop i l.fn.t
     × ((n : ℕ) → g.H.Held.has_room l.initial.held n → g.H.Held.has_room l.held n)
     × (g.W.Wires.out l.wires + sum_by wires_of l.fn.tasks.items ≡ g.W.Wires.out l.initial.wires + sum_by wires_of (drop i l.fn.tasks.items))
     × (g.W.Wires.made l.wires ≡ g.W.Wires.made l.initial.wires) × (g.W.Wires.sound l.wires ≡ g.W.Wires.sound l.initial.wires) × (g.W.Wires.faults l.wires ≡ g.W.Wires.faults l.initial.wires)
+    × ((now : Option (List (List ℕ))) → AreClosed g.W.Wire.Wire.state (drop i l.fn.tasks.items) (g.W.Wires.carried l.wires) now
+    → AreClosed g.W.Wire.Wire.state l.fn.tasks.items (g.W.Wires.carried l.initial.wires) now)
 
 abbrev pub decreases-loop-task : goal.decreases-loop-task
 decreases-loop-task g l = goal.left-loop-task g l

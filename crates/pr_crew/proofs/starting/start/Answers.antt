@@ -1,8 +1,9 @@
 use Rattle.std.proofs.Common.{rules, ◌≡◌, ◌+◌, ap, ◌∙◌, refl, sym, subst, length, arith}
-use Rattle.std.specs.Prelude.{sum_by}
+use Rattle.std.specs.Prelude.{All, IsTrue, sum_by}
+use Rattle.std.proofs.lemmas.List.Elements.{All-nil, All-push}
 use Rattle.std.proofs.lemmas.Option.{slice_get_read}
 use Rattle.pr_crew.specs.Starting.{HaveStarted}
-use Rattle.pr_crew.specs.Tasks.{wires_of}
+use Rattle.pr_crew.specs.Tasks.{HasSoundWire, wires_of}
 use Rattle.pr_crew.proofs.Places.{sum_push}
 use Rattle.pr_crew.proofs.Starts.{can_start, none_started, one_started}
 use Rattle.pr_crew.proofs.starting.start.Goals as goal
@@ -20,6 +21,8 @@ loop-work-init g c = record {
   out = search rules;
   faults = omega arith;
   sound = refl;
+  carried = refl;
+  sound_wires = λ all. subst (λ ts. All (HasSoundWire g.W.Wire.Wire.state) ts) (sym c.requires.empty) (All-nil (HasSoundWire g.W.Wire.Wire.state));
 }
 
 pub start_one-requires-clause-can : goal.start_one-requires-clause-can
@@ -57,6 +60,11 @@ loop-work-preserved g c = record {
       omega (arith, then, so_far, more);
   faults = search rules;
   sound = search rules;
+  carried = search rules;
+  sound_wires = λ all.
+      let one = c.start_one.ensures.sound_wire (subst (λ sound. IsTrue (sound (g.W.Wires.made c.loop-work.wires + 1))) (sym c.loop-work.invariant.sound) (all (g.W.Wires.made c.loop-work.wires + 1))) in
+      subst (λ ts. All (HasSoundWire g.W.Wire.Wire.state) ts) (sym c.add.ensures.items)
+      (All-push (HasSoundWire g.W.Wire.Wire.state) c.loop-work.tasks.items c.start_one.result (c.loop-work.invariant.sound_wires all) one);
 }
 
 pub returns-clause-started : goal.returns-clause-started

@@ -1,11 +1,11 @@
 use Rattle.std.proofs.Common.{◌≡◌, ◌≤◌, ◌+◌, ℕ, List, length}
-use Rattle.std.specs.Prelude.{sum_by, vec_capacity}
+use Rattle.std.specs.Prelude.{All, IsTrue, sum_by, vec_capacity}
 use Rattle.pr_script.specs.Steps.{Numbered}
 use Rattle.pr_script.specs.declared.owner.Owner.{Owner}
 use Rattle.pr_story.specs.Counts.{Declared}
 use Rattle.pr_story.specs.History.{NodeEntry, Plan}
 use Rattle.pr_crew.specs.Starting.{CanStart, HaveStarted}
-use Rattle.pr_crew.specs.Tasks.{wires_of}
+use Rattle.pr_crew.specs.Tasks.{HasSoundWire, wires_of}
 use Rattle.pr_crew.proofs.starting.start.Given as goal
 
 abbrev pub invariant-loop-work : goal.invariant-loop-work
@@ -20,4 +20,6 @@ invariant-loop-work g l = record {
   out : g.W.Wires.out l.wires ≡ g.W.Wires.out l.initial.wires + sum_by wires_of l.tasks.items;
   faults : g.W.Wires.faults l.initial.wires ≤ g.W.Wires.faults l.wires;
   sound : g.W.Wires.sound l.wires ≡ g.W.Wires.sound l.initial.wires;
+  carried : g.W.Wires.carried l.wires ≡ g.W.Wires.carried l.initial.wires;
+  sound_wires : ((k : ℕ) → IsTrue (g.W.Wires.sound l.initial.wires k)) → All (HasSoundWire g.W.Wire.Wire.state) l.tasks.items;
 }

@@ -1,6 +1,7 @@
 use Rattle.std.proofs.Common.{◌≡◌, ◌++◌, ◌∙◌, Err, List, Result, ap, subst, sym, ℕ}
 use Rattle.std.proofs.lemmas.Result.{err_from_is_err_and}
 use Rattle.pr_script.specs.declared.script.Script.{Script}
+use Rattle.pr_story.specs.Scripts.{JobAfterJob}
 use Rattle.pr_top.specs.Generated.{HasSummed}
 use Rattle.pr_top.specs.Progress.{HasCome}
 use Rattle.pr_top.specs.declared.stepping.Halt.{Halt}
@@ -53,5 +54,5 @@ returns c =
     let ds = c.in_ok-script.script.decls.list in
     let told = c.in_ok-summary.ensures h held ∙ ap (λ (t : List ℕ). t ++ summary_text ds h) c.new-text.ensures ∙ ap (λ (s : Script). summary_text s.decls.list h) s_is in
     all_summed c.args.seed c.args.size c.in_ok-run.run'.engine c.in_ok-run.run'.unmet c.summary.new.out h
-    (subst (λ (s : Script). HasCome s _ h c.in_ok-run.run'.engine c.in_ok-run.run'.unmet) s_is k.1)
+    (subst (λ (s : Script). HasCome JobAfterJob s _ h c.in_ok-run.run'.engine c.in_ok-run.run'.unmet) s_is k.1)
     told

@@ -5,6 +5,8 @@ use Rattle.pr_ports.specs.Faults.{HasRisen}
 use Rattle.pr_script.specs.Steps.{Numbered}
 use Rattle.pr_sim.specs.Making.{declared_of}
 use Rattle.pr_sim.proofs.Story.{running_tells}
+use Rattle.pr_story.specs.Scripts.{JobAfterJob}
+use Rattle.pr_top.specs.Runs.{all_sound}
 use Rattle.pr_top.specs.KeptProgress.{HasKeptAll, HasKeptFrom}
 use Rattle.pr_top.specs.Kept.{placed}
 use Rattle.pr_top.specs.Progress.{HasCome, Writes, entry_lines}
@@ -27,7 +29,7 @@ keep_from-requires g c =
     let b = g.K.Sink.text c.loop-at.out in
     let f = c.step-step.new.self.engine in
     let v = c.step-step.new.self.unmet in
-    let made = made_now s c.as_slice-list.result.now c.index-list-at.result c.loop-at.at c.loop-at.told c.loop-at.run.engine c.loop-at.run.unmet a b w c.as_slice-list.ensures c.loop-at-test.true c.index-list-at.is f v c.step-step.result (λ h come. c.step-step.ensures s h come) in (
+    let made = made_now JobAfterJob all_sound s c.as_slice-list.result.now c.index-list-at.result c.loop-at.at c.loop-at.told c.loop-at.run.engine c.loop-at.run.unmet a b w c.as_slice-list.ensures c.loop-at-test.true c.index-list-at.is f v c.step-step.result (λ h come. c.step-step.ensures s h come) in (
       declared_of ds,
       made.0 ++ w.h,
       made.1.tells,
@@ -45,7 +47,7 @@ returns-in_err-keep_from-clause-run g c =
     let b = g.K.Sink.text c.loop-at.out in
     let f = c.step-step.new.self.engine in
     let v = c.step-step.new.self.unmet in
-    let made = made_now s c.as_slice-list.result.now c.index-list-at.result c.loop-at.at c.loop-at.told c.loop-at.run.engine c.loop-at.run.unmet a b w c.as_slice-list.ensures c.loop-at-test.true c.index-list-at.is f v c.step-step.result (λ h come. c.step-step.ensures s h come) in
+    let made = made_now JobAfterJob all_sound s c.as_slice-list.result.now c.index-list-at.result c.loop-at.at c.loop-at.told c.loop-at.run.engine c.loop-at.run.unmet a b w c.as_slice-list.ensures c.loop-at-test.true c.index-list-at.is f v c.step-step.result (λ h come. c.step-step.ensures s h come) in
     let failed : Type 0 = HasRisen (g.K.Sink.faults c.args.out.now) (g.K.Sink.faults c.loop-at.out) in
     let p = err_from_is_err_and c.from_residual.result c.from_residual.ensures.1 in
     let was = c.in_err-keep_from.was in
@@ -55,7 +57,7 @@ returns-in_err-keep_from-clause-run g c =
     let kept = c.keep_from.ensures (declared_of ds) (made.0 ++ w.h) made.1.tells (told_within made.0 w.h c.loop-at.told w.all_told) front in
     subst (λ (r : Result (Unit {0}) Break). HasKeptAll g.D.Disk.state g.D.Disk.images g.D.Disk.moment g.D.Disk.images_since c.args.keep.now c.keep_from.new.keep s failed a b f v r) (sym p.1)
     (not_kept g.D.Disk.state g.D.Disk.images g.D.Disk.moment g.D.Disk.images_since s w.h made.0 c.args.keep.now c.loop-at.keep c.keep_from.new.keep before failed c.loop-at.run.engine f c.loop-at.run.unmet v c.loop-at.told (drop c.loop-at.at s.commands) a b p.0 w.come
-    (history_of s (made.0 ++ w.h) f halts.NoMemory made.1) w.all_told made.2 w.written
+    (history_of JobAfterJob all_sound s (made.0 ++ w.h) f halts.NoMemory made.1) w.all_told made.2 w.written
     (subst (λ (r : Result (Unit {0}) Break). HasKeptFrom g.D.Disk.state g.D.Disk.images g.D.Disk.moment g.D.Disk.images_since c.loop-at.keep c.keep_from.new.keep (placed (reverse (made.0 ++ w.h))) c.loop-at.told v r) done kept))
 
 pub tell_from-requires : goal.tell_from-requires
@@ -68,7 +70,7 @@ tell_from-requires g c =
     let b = g.K.Sink.text c.loop-at.out in
     let f = c.step-step.new.self.engine in
     let v = c.step-step.new.self.unmet in
-    let made = made_now s c.as_slice-list.result.now c.index-list-at.result c.loop-at.at c.loop-at.told c.loop-at.run.engine c.loop-at.run.unmet a b w c.as_slice-list.ensures c.loop-at-test.true c.index-list-at.is f v c.step-step.result (λ h come. c.step-step.ensures s h come) in
+    let made = made_now JobAfterJob all_sound s c.as_slice-list.result.now c.index-list-at.result c.loop-at.at c.loop-at.told c.loop-at.run.engine c.loop-at.run.unmet a b w c.as_slice-list.ensures c.loop-at-test.true c.index-list-at.is f v c.step-step.result (λ h come. c.step-step.ensures s h come) in
     (made.0 ++ w.h, made.1.tells, told_within made.0 w.h c.loop-at.told w.all_told)
 
 pub returns-in_err-told-clause-run : goal.returns-in_err-told-clause-run
@@ -81,7 +83,7 @@ returns-in_err-told-clause-run g c =
     let b = g.K.Sink.text c.loop-at.out in
     let f = c.step-step.new.self.engine in
     let v = c.step-step.new.self.unmet in
-    let made = made_now s c.as_slice-list.result.now c.index-list-at.result c.loop-at.at c.loop-at.told c.loop-at.run.engine c.loop-at.run.unmet a b w c.as_slice-list.ensures c.loop-at-test.true c.index-list-at.is f v c.step-step.result (λ h come. c.step-step.ensures s h come) in
+    let made = made_now JobAfterJob all_sound s c.as_slice-list.result.now c.index-list-at.result c.loop-at.at c.loop-at.told c.loop-at.run.engine c.loop-at.run.unmet a b w c.as_slice-list.ensures c.loop-at-test.true c.index-list-at.is f v c.step-step.result (λ h come. c.step-step.ensures s h come) in
     let front = kept_front g.D.Disk.state g.D.Disk.images g.D.Disk.moment g.D.Disk.images_since w.h made.0 c.loop-at.told c.loop-at.keep w.all_told before.keeps in
     let kept = kept_rest g.D.Disk.state g.D.Disk.images g.D.Disk.moment g.D.Disk.images_since w.h made.0 c.loop-at.told v c.loop-at.keep c.keep_from.new.keep c.keep_from.result w.all_told c.in_ok-keep_from.was
     (c.keep_from.ensures (declared_of ds) (made.0 ++ w.h) made.1.tells (told_within made.0 w.h c.loop-at.told w.all_told) front) in
@@ -109,7 +111,7 @@ returns-in_err-at-clause-run g c =
     let b = g.K.Sink.text c.loop-at.out in
     let f = c.step-step.new.self.engine in
     let v = c.step-step.new.self.unmet in
-    let halted = halted_now s c.as_slice-list.result.now c.index-list-at.result c.loop-at.at c.loop-at.told c.loop-at.run.engine c.loop-at.run.unmet a b w c.as_slice-list.ensures c.loop-at-test.true c.index-list-at.is f v c.step-step.result (λ h come. c.step-step.ensures s h come) c.in_err-at.field-0.0 c.in_err-at.was in
+    let halted = halted_now JobAfterJob all_sound s c.as_slice-list.result.now c.index-list-at.result c.loop-at.at c.loop-at.told c.loop-at.run.engine c.loop-at.run.unmet a b w c.as_slice-list.ensures c.loop-at-test.true c.index-list-at.is f v c.step-step.result (λ h come. c.step-step.ensures s h come) c.in_err-at.field-0.0 c.in_err-at.was in
     let front = kept_front g.D.Disk.state g.D.Disk.images g.D.Disk.moment g.D.Disk.images_since w.h halted.0 c.loop-at.told c.loop-at.keep w.all_told before.keeps in
     let kept = kept_rest g.D.Disk.state g.D.Disk.images g.D.Disk.moment g.D.Disk.images_since w.h halted.0 c.loop-at.told v c.loop-at.keep c.keep_from.new.keep c.keep_from.result w.all_told c.in_ok-keep_from.was
     (c.keep_from.ensures (declared_of ds) (halted.0 ++ w.h) halted.1.tells (told_within halted.0 w.h c.loop-at.told w.all_told) front) in
@@ -142,7 +144,7 @@ overflow_add-at-in-loop-at g c =
     let b = g.K.Sink.text c.loop-at.out in
     let f = c.step-step.new.self.engine in
     let v = c.step-step.new.self.unmet in
-    let went = went_now s c.as_slice-list.result.now c.index-list-at.result c.loop-at.at c.loop-at.told c.loop-at.run.engine c.loop-at.run.unmet a b w c.as_slice-list.ensures c.loop-at-test.true c.index-list-at.is f v c.step-step.result (λ h come. c.step-step.ensures s h come) c.in_ok-at.field-0 c.in_ok-at.was in
+    let went = went_now JobAfterJob all_sound s c.as_slice-list.result.now c.index-list-at.result c.loop-at.at c.loop-at.told c.loop-at.run.engine c.loop-at.run.unmet a b w c.as_slice-list.ensures c.loop-at-test.true c.index-list-at.is f v c.step-step.result (λ h come. c.step-step.ensures s h come) c.in_ok-at.field-0 c.in_ok-at.was in
     let within : c.loop-at.at + (c.in_ok-at.field-0 + 1) ≤ length c.as_slice-list.result.now = went.0 in
     search rules
 
@@ -156,7 +158,7 @@ overflow_add-at-in-loop-at-2 g c =
     let b = g.K.Sink.text c.loop-at.out in
     let f = c.step-step.new.self.engine in
     let v = c.step-step.new.self.unmet in
-    let went = went_now s c.as_slice-list.result.now c.index-list-at.result c.loop-at.at c.loop-at.told c.loop-at.run.engine c.loop-at.run.unmet a b w c.as_slice-list.ensures c.loop-at-test.true c.index-list-at.is f v c.step-step.result (λ h come. c.step-step.ensures s h come) c.in_ok-at.field-0 c.in_ok-at.was in
+    let went = went_now JobAfterJob all_sound s c.as_slice-list.result.now c.index-list-at.result c.loop-at.at c.loop-at.told c.loop-at.run.engine c.loop-at.run.unmet a b w c.as_slice-list.ensures c.loop-at-test.true c.index-list-at.is f v c.step-step.result (λ h come. c.step-step.ensures s h come) c.in_ok-at.field-0 c.in_ok-at.was in
     let within : c.loop-at.at + (c.in_ok-at.field-0 + 1) ≤ length c.as_slice-list.result.now = went.0 in
     search rules
 
@@ -170,7 +172,7 @@ loop-at-preserved g c =
     let b = g.K.Sink.text c.loop-at.out in
     let f = c.step-step.new.self.engine in
     let v = c.step-step.new.self.unmet in
-    let went = went_now s c.as_slice-list.result.now c.index-list-at.result c.loop-at.at c.loop-at.told c.loop-at.run.engine c.loop-at.run.unmet a b w c.as_slice-list.ensures c.loop-at-test.true c.index-list-at.is f v c.step-step.result (λ h come. c.step-step.ensures s h come) c.in_ok-at.field-0 c.in_ok-at.was in
+    let went = went_now JobAfterJob all_sound s c.as_slice-list.result.now c.index-list-at.result c.loop-at.at c.loop-at.told c.loop-at.run.engine c.loop-at.run.unmet a b w c.as_slice-list.ensures c.loop-at-test.true c.index-list-at.is f v c.step-step.result (λ h come. c.step-step.ensures s h come) c.in_ok-at.field-0 c.in_ok-at.was in
     let new = went.1.0 in
     let come = went.1.1 in
     let tells = running_tells (declared_of ds) come.attached (new ++ w.h) f come.running in
@@ -188,4 +190,4 @@ pub returns-clause-run : goal.returns-clause-run
 returns-clause-run g c =
     let l = ap (λ (xs : List Numbered). length xs) c.as_slice-list.ensures in
     let w = c.loop-at.invariant.held.0 in
-    (w.h, subst (λ (rest : List Numbered). HasCome c.args.script.now rest w.h c.loop-at.run.engine c.loop-at.run.unmet) (drop_all c.loop-at.at c.args.script.now.commands (omega (arith, l, c.loop-at-test.false))) w.come, w.written, c.loop-at.invariant.held.1)
+    (w.h, subst (λ (rest : List Numbered). HasCome JobAfterJob c.args.script.now rest w.h c.loop-at.run.engine c.loop-at.run.unmet) (drop_all c.loop-at.at c.args.script.now.commands (omega (arith, l, c.loop-at-test.false))) w.come, w.written, c.loop-at.invariant.held.1)

@@ -5,6 +5,7 @@ use Rattle.pr_sim.specs.Making.{declared_of}
 use Rattle.pr_sim.proofs.Story.{running_tells}
 use Rattle.pr_text.specs.Endings.{ok_line}
 use Rattle.pr_text.specs.Heads.{heads_text}
+use Rattle.pr_story.specs.Scripts.{JobAfterJob}
 use Rattle.pr_top.specs.KeptProgress.{HasKeptAll, HasKeptTold}
 use Rattle.pr_top.specs.Progress.{Writes}
 use Rattle.pr_top.specs.declared.keeping.Break.{Break}
@@ -49,7 +50,7 @@ returns-in_err-engine-clause-told g c =
     (heads_only g.D.Disk.state g.D.Disk.images g.D.Disk.moment g.D.Disk.images_since failed s a b c.args.keep.now none heads)
 
 pub commands-requires-clause-come : goal.commands-requires-clause-come
-commands-requires-clause-come g c = start c.args.script.now c.in_ok-engine.engine c.requires.good c.in_ok-engine.ensures
+commands-requires-clause-come g c = start JobAfterJob c.args.script.now c.in_ok-engine.engine c.requires.good c.in_ok-engine.ensures
 
 pub returns-in_err-commands-clause-told : goal.returns-in_err-commands-clause-told
 returns-in_err-commands-clause-told g c =

@@ -1,5 +1,6 @@
 use Rattle.std.proofs.Common.{◌≡◌, Err, Result, subst, sym}
 use Rattle.std.proofs.lemmas.Result.{err_from_is_err_and}
+use Rattle.pr_story.specs.Scripts.{JobAfterJob}
 use Rattle.pr_top.specs.Silent.{HasEnded}
 use Rattle.pr_top.specs.declared.stepping.Halt.{Halt}
 use Rattle.pr_top.specs.declared.stepping.Halt.TheVariants as halts
@@ -17,7 +18,7 @@ returns-in_err-engine c =
     subst (λ (r : Result Run Halt). HasEnded c.args.script.now r) (sym done) (nothing_ran c.args.script.now)
 
 pub run_all-requires : goal.run_all-requires
-run_all-requires c = start c.args.script.now c.in_ok-engine.engine c.requires c.in_ok-engine.ensures
+run_all-requires c = start JobAfterJob c.args.script.now c.in_ok-engine.engine c.requires c.in_ok-engine.ensures
 
 pub returns-in_err-run_all : goal.returns-in_err-run_all
 returns-in_err-run_all c =

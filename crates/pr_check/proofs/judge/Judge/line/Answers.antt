@@ -10,16 +10,16 @@ new-requires c =
     let j = judged c.args.self.now stages.Heads c.requires.usable (sym c.replace.ensures.value ∙ c.in-Heads-2.is) (λ e. absurd (cc)) in
     record { good = good_decls c.args.self.now.decls.list j.1.decls.accepted }
 
-pub returns-in_ok-engine-in-Heads-2-clause-verdict : goal.returns-in_ok-engine-in-Heads-2-clause-verdict
-returns-in_ok-engine-in-Heads-2-clause-verdict c lines j =
+pub returns-in-Heads-2-clause-verdict : goal.returns-in-Heads-2-clause-verdict
+returns-in-Heads-2-clause-verdict c lines j =
     let is : c.args.self.now.stage ≡ stages.Heads = sym c.replace.ensures.value ∙ c.in-Heads-2.is in
     c.behind_heads.ensures lines (new_replays c.args.self.now.decls.list c.in_ok-engine-in-Heads-2.engine lines c.in_ok-engine-in-Heads-2.ensures (at_stage c.args.self.now lines stages.Heads j is))
     (λ head. not_both _ head.1 (sym c.begins_head.ensures ∙ c.if-begins_head.false))
 
-pub returns-in_ok-engine-in-Heads-2-clause-usable : goal.returns-in_ok-engine-in-Heads-2-clause-usable
-returns-in_ok-engine-in-Heads-2-clause-usable c =
+pub returns-in-Heads-2-clause-usable : goal.returns-in-Heads-2-clause-usable
+returns-in-Heads-2-clause-usable c =
     let j = judged c.args.self.now stages.Heads c.requires.usable (sym c.replace.ensures.value ∙ c.in-Heads-2.is) (λ e. absurd (cc)) in
-    usable_then j.0 c.args.line.now c.behind_heads.new.self c.behind_heads.result (returns-in_ok-engine-in-Heads-2-clause-verdict c j.0 j.1)
+    usable_then j.0 c.args.line.now c.behind_heads.new.self c.behind_heads.result (returns-in-Heads-2-clause-verdict c j.0 j.1)
 
 pub returns-in-Events-clause-verdict : goal.returns-in-Events-clause-verdict
 returns-in-Events-clause-verdict c lines j =
@@ -34,5 +34,6 @@ returns-in-Events-clause-usable c =
 
 pub returns-in-Ended-clause-verdict : goal.returns-in-Ended-clause-verdict
 returns-in-Ended-clause-verdict c lines j =
-    let bad = past_end c.args.self.now.decls.list lines c.args.line.now j.decls.accepted (at_stage c.args.self.now lines stages.Ended j (sym c.replace.ensures.value ∙ c.in-Ended.is)) in
+    let ended = at_stage c.args.self.now lines (stages.Ended c.in-Ended.field-0) j (sym c.replace.ensures.value ∙ c.in-Ended.is) in
+    let bad = past_end c.args.self.now.decls.list c.in-Ended.field-0 lines c.args.line.now j.decls.accepted ended in
     (bad_begins_none lines c.args.line.now 4 bad, bad, c.replace.ensures.after)

@@ -1,9 +1,17 @@
-use Rattle.std.proofs.Common.{refl, sym, ◌∙◌}
-use Rattle.pr_marks.proofs.Rows.{is_marked, put_back, row_at}
+use Rattle.std.proofs.Common.{Option, rules, refl, sym, ◌∙◌}
+use Rattle.std.specs.Map.{lookup}
+use Rattle.std.specs.Str.{bytes_eq}
+use Rattle.pr_marks.specs.Row.{Kept}
+use Rattle.pr_marks.proofs.Rows.{is_marked, raised_row, row_at, row_marks, written}
 use Rattle.pr_marks.proofs.marks.Marks.add.Goals as goal
 
 pub returns-clause-ok : goal.returns-clause-ok
 returns-clause-ok c =
-    rw (← c.self.view_is) (is_marked _ _ c.args.name.now c.args.mark.now c.args.gone c.in_ok-row.row c.raised-row.result c.remove.result c.newest_of.result refl
-    (put_back c.args.name.now c.self.inside.rows.entries c.remove.new.self.entries c.insert.new.self.entries c.in_ok-row.row c.remove.ensures.updates.0 c.in_ok-insert.ensures.updates.0)
-    (c.remove.ensures.value ∙ sym (row_at c.args.name.now c.self.inside.rows.entries)) c.newest_of.ensures c.raised-row.ensures.newest c.raised-row.ensures.marks c.in_ok-row.ensures.newest c.in_ok-row.ensures.marks)
+    let old : Option Kept = lookup (bytes_eq c.args.name.now) c.self.inside.rows.entries in
+    let was = c.in_ok-self-inside.ensures.value ∙ sym (row_at c.args.name.now c.self.inside.rows.entries) in
+    rw (← c.self.view_is) (is_marked _ _ c.args.name.now c.args.mark.now c.args.gone c.note.new.self c.raise.new.self old c.newest_of-newest.result refl
+    (written c.args.name.now c.self.inside.rows.entries _ c.note.new.self (λ q. search (rules, (c.in_ok-self-inside.ensures.update.0 c.note.new.self).0 q)))
+    refl c.newest_of-newest.ensures
+    (raised_row _ old _ _ _ _ was c.new.ensures c.or_insert-row.ensures.value c.raise.ensures.newest)
+    (c.raise.ensures.marks ∙ row_marks _ old _ _ _ was c.new.ensures c.or_insert-row.ensures.value)
+    c.note.ensures.newest c.in_ok-note.ensures.marks)

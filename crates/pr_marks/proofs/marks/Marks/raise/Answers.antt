@@ -1,9 +1,16 @@
-use Rattle.std.proofs.Common.{refl, sym, ◌∙◌}
-use Rattle.pr_marks.proofs.Rows.{is_raised, put_back, row_at}
+use Rattle.std.proofs.Common.{Option, rules, refl, sym, ◌∙◌}
+use Rattle.std.specs.Map.{lookup}
+use Rattle.std.specs.Str.{bytes_eq}
+use Rattle.pr_marks.specs.Row.{Kept}
+use Rattle.pr_marks.proofs.Rows.{is_raised, raised_row, row_at, row_marks, written}
 use Rattle.pr_marks.proofs.marks.Marks.raise.Goals as goal
 
 pub returns-clause-ok : goal.returns-clause-ok
 returns-clause-ok c =
-    rw (← c.self.view_is) (is_raised _ _ c.args.name.now c.args.newest.now c.raised-row.result c.remove.result refl
-    (put_back c.args.name.now c.self.inside.rows.entries c.remove.new.self.entries c.insert.new.self.entries c.raised-row.result c.remove.ensures.updates.0 c.in_ok-insert.ensures.updates.0)
-    (c.remove.ensures.value ∙ sym (row_at c.args.name.now c.self.inside.rows.entries)) c.raised-row.ensures.newest c.raised-row.ensures.marks)
+    let old : Option Kept = lookup (bytes_eq c.args.name.now) c.self.inside.rows.entries in
+    let was = c.in_ok-self-inside.ensures.value ∙ sym (row_at c.args.name.now c.self.inside.rows.entries) in
+    rw (← c.self.view_is) (is_raised _ _ c.args.name.now c.args.newest.now c.raise.new.self old refl
+    (written c.args.name.now c.self.inside.rows.entries _ c.raise.new.self (λ q. search (rules, (c.in_ok-self-inside.ensures.update.0 c.raise.new.self).0 q)))
+    refl
+    (raised_row _ old _ _ _ _ was c.new.ensures c.or_insert-row.ensures.value c.raise.ensures.newest)
+    (c.raise.ensures.marks ∙ row_marks _ old _ _ _ was c.new.ensures c.or_insert-row.ensures.value))

@@ -1,27 +1,31 @@
-use Rattle.std.proofs.Common.{◌≡◌, ◌∷◌, ◌+◌, ◌-◌, ◌<◌, List, Result, Ok, Err, arith, length, sym, subst, ℕ}
+use Rattle.std.proofs.Common.{◌≡◌, ◌∷◌, ◌+◌, ◌-◌, ◌<◌, ◌≤◌, List, Result, Ok, Err, arith, length, sym, subst, refl, take, ℕ}
 use Rattle.std.proofs.lemmas.Result.{err_from_is_err_and}
 use Rattle.pr_script.specs.Steps.{Numbered}
-use Rattle.pr_sim.specs.Commands.{StepEnds}
 use Rattle.pr_sim.specs.Making.{declared_of}
-use Rattle.pr_sim.specs.Phasing.{CanRunPhase}
-use Rattle.pr_story.specs.Scripts.{Phase}
+use Rattle.pr_story.specs.Scripts.{JobAfterJob, Phase}
 use Rattle.pr_text.specs.Steps.{jobs_of}
 use Rattle.pr_top.specs.Progress.{HasStepped}
+use Rattle.pr_sim.specs.Commands.{StepEnds}
+use Rattle.pr_sim.specs.Phasing.{CanRunPhase}
+use Rattle.pr_sim.proofs.Goods.{good_phase_can_run}
+use Rattle.pr_top.specs.Runs.{all_sound}
+use Rattle.pr_top.proofs.Singles.{in_order_steps}
 use Rattle.pr_top.specs.declared.stepping.Halt.{Halt}
-use Rattle.pr_top.proofs.Steps.{can_run_phase, phase_steps, phase_stops, phase_within}
+use Rattle.pr_top.proofs.Steps.{phase_steps, phase_stops, phase_within, ready_for}
 use Rattle.pr_top.proofs.stepping.Run.phase.Goals as goal
 
 pub split_at-requires : goal.split_at-requires
 split_at-requires c =
     let k = c.requires.come in
-    let within : c.phase_len.result < length c.args.behind.now = phase_within k.0 c.args.first.now c.args.behind.now k.1 c.args.self.now.engine c.args.self.now.unmet k.2 c.requires.phase c.phase_len.result c.phase_len.ensures in
+    let within : c.phase_len.result < length c.args.behind.now = phase_within JobAfterJob all_sound k.0 c.args.first.now c.args.behind.now k.1 c.args.self.now.engine c.args.self.now.unmet k.2 c.requires.phase c.phase_len.result c.phase_len.ensures in
     omega arith
 
 pub phase_in_order-requires-clause-can : goal.phase_in_order-requires-clause-can
 phase_in_order-requires-clause-can c κs =
     let k = c.requires.come in
+    let ready = ready_for JobAfterJob all_sound k.0 c.args.first.now c.args.behind.now k.1 c.args.self.now.engine c.args.self.now.unmet k.2 c.requires.phase c.phase_len.result c.phase_len.ensures in
     subst (λ (xs : List Numbered). CanRunPhase c.args.self.now.engine xs) (sym c.split_at.ensures.front)
-    (can_run_phase k.0 c.args.first.now c.args.behind.now k.1 c.args.self.now.engine c.args.self.now.unmet k.2 c.requires.phase c.phase_len.result c.phase_len.ensures)
+    (good_phase_can_run ready.decls ready.numbers ready.attached ready.h c.args.self.now.engine (take c.phase_len.result c.args.behind.now) ready.running ready.same ready.good)
 
 pub returns-in_err-went : goal.returns-in_err-went
 returns-in_err-went c = λ s h k.
@@ -29,23 +33,23 @@ returns-in_err-went c = λ s h k.
     let was = c.in_err-went.was in
     let same = p.2 in
     let done : c.went.result ≡ Err p.0 = cc in
-    subst (λ (r : Result ℕ Halt). HasStepped s (c.args.first.now ∷ c.args.behind.now) h c.phase_in_order.new.self c.args.self.now.unmet r) (sym p.1)
-    (phase_stops s c.args.first.now c.args.behind.now h c.args.self.now.engine c.args.self.now.unmet k c.requires.phase c.phase_len.result c.phase_len.ensures c.phase_in_order.new.self c.phase_in_order.result c.went.result p.0
-    (subst (λ (xs : List Numbered). StepEnds (Phase (jobs_of xs)) (declared_of s.decls.list) k.attached h c.phase_in_order.new.self c.phase_in_order.result) c.split_at.ensures.front
-    (c.phase_in_order.ensures.steps (declared_of s.decls.list) k.attached h k.running)) c.went.ensures done)
+    subst (λ (r : Result ℕ Halt). HasStepped JobAfterJob all_sound s (c.args.first.now ∷ c.args.behind.now) h c.phase_in_order.new.self c.args.self.now.unmet r) (sym p.1)
+    (phase_stops JobAfterJob all_sound s c.args.first.now c.args.behind.now h c.args.self.now.engine c.args.self.now.unmet k c.requires.phase c.phase_len.result c.phase_len.ensures c.phase_in_order.new.self c.phase_in_order.result c.went.result p.0
+    (in_order_steps all_sound (Phase (jobs_of (take c.phase_len.result c.args.behind.now))) (declared_of s.decls.list) k.attached h c.phase_in_order.new.self c.phase_in_order.result (λ lie all. lie (c.phase_in_order.ensures.wires.no_lie all))
+    (subst (λ (xs : List Numbered). StepEnds (Phase (jobs_of xs)) (declared_of s.decls.list) k.attached h c.phase_in_order.new.self c.phase_in_order.result) c.split_at.ensures.front (c.phase_in_order.ensures.steps (declared_of s.decls.list) k.attached h k.running))) c.went.ensures done)
 
 pub overflow_sub-result : goal.overflow_sub-result
 overflow_sub-result c =
     let k = c.requires.come in
-    let within : c.phase_len.result < length c.args.behind.now = phase_within k.0 c.args.first.now c.args.behind.now k.1 c.args.self.now.engine c.args.self.now.unmet k.2 c.requires.phase c.phase_len.result c.phase_len.ensures in
+    let within : c.phase_len.result < length c.args.behind.now = phase_within JobAfterJob all_sound k.0 c.args.first.now c.args.behind.now k.1 c.args.self.now.engine c.args.self.now.unmet k.2 c.requires.phase c.phase_len.result c.phase_len.ensures in
     omega (arith, c.split_at.ensures.back_len)
 
 pub returns : goal.returns
 returns c = λ s h k.
-    let within : c.phase_len.result < length c.args.behind.now = phase_within s c.args.first.now c.args.behind.now h c.args.self.now.engine c.args.self.now.unmet k c.requires.phase c.phase_len.result c.phase_len.ensures in
+    let within : c.phase_len.result < length c.args.behind.now = phase_within JobAfterJob all_sound s c.args.first.now c.args.behind.now h c.args.self.now.engine c.args.self.now.unmet k c.requires.phase c.phase_len.result c.phase_len.ensures in
     let back = c.split_at.ensures.back_len in
     let count : c.phase_len.result + 1 ≡ length c.args.behind.now - (length c.split_at.result.1.now - 1) = omega arith in
-    subst (λ (n : ℕ). HasStepped s (c.args.first.now ∷ c.args.behind.now) h c.phase_in_order.new.self c.args.self.now.unmet (Ok n)) count
-    (phase_steps s c.args.first.now c.args.behind.now h c.args.self.now.engine c.args.self.now.unmet k c.requires.phase c.phase_len.result c.phase_len.ensures c.phase_in_order.new.self c.phase_in_order.result c.went.result
-    (subst (λ (xs : List Numbered). StepEnds (Phase (jobs_of xs)) (declared_of s.decls.list) k.attached h c.phase_in_order.new.self c.phase_in_order.result) c.split_at.ensures.front
-    (c.phase_in_order.ensures.steps (declared_of s.decls.list) k.attached h k.running)) c.went.ensures c.in_ok-went.was)
+    subst (λ (n : ℕ). HasStepped JobAfterJob all_sound s (c.args.first.now ∷ c.args.behind.now) h c.phase_in_order.new.self c.args.self.now.unmet (Ok n)) count
+    (phase_steps JobAfterJob all_sound s c.args.first.now c.args.behind.now h c.args.self.now.engine c.args.self.now.unmet k c.requires.phase c.phase_len.result c.phase_len.ensures c.phase_in_order.new.self c.phase_in_order.result c.went.result
+    (in_order_steps all_sound (Phase (jobs_of (take c.phase_len.result c.args.behind.now))) (declared_of s.decls.list) k.attached h c.phase_in_order.new.self c.phase_in_order.result (λ lie all. lie (c.phase_in_order.ensures.wires.no_lie all))
+    (subst (λ (xs : List Numbered). StepEnds (Phase (jobs_of xs)) (declared_of s.decls.list) k.attached h c.phase_in_order.new.self c.phase_in_order.result) c.split_at.ensures.front (c.phase_in_order.ensures.steps (declared_of s.decls.list) k.attached h k.running))) c.went.ensures c.in_ok-went.was)

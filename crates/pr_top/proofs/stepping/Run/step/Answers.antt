@@ -1,14 +1,20 @@
 use Rattle.std.proofs.Common.{◌∷◌, [], arith, inl, refl, subst}
 use Rattle.pr_script.specs.declared.command.Command.{Command}
+use Rattle.pr_story.specs.Scripts.{JobAfterJob}
 use Rattle.pr_top.specs.Progress.{HasCome}
 use Rattle.pr_top.proofs.stepping.Run.step.Goals as goal
+
+pub judge-requires : goal.judge-requires
+judge-requires c =
+    let k = c.requires in
+    (JobAfterJob, (k.0, k.1, subst (λ (x : Command). HasCome JobAfterJob k.0 ((c.args.first.now.0, x) ∷ c.args.behind.now) k.1 c.args.self.now.engine c.args.self.now.unmet) c.in-Expect.is k.2))
 
 pub returns-in-Expect : goal.returns-in-Expect
 returns-in-Expect c = λ s h k. (
   omega arith,
   (
     [],
-    c.judge.ensures s h (subst (λ (x : Command). HasCome s ((c.args.first.now.0, x) ∷ c.args.behind.now) h c.args.self.now.engine c.args.self.now.unmet) c.in-Expect.is k),
+    c.judge.ensures JobAfterJob s h (subst (λ (x : Command). HasCome JobAfterJob s ((c.args.first.now.0, x) ∷ c.args.behind.now) h c.args.self.now.engine c.args.self.now.unmet) c.in-Expect.is k),
     inl refl,
   ),
 )

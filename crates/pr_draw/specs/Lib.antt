@@ -1,0 +1,4 @@
+pub mod Xml
+pub mod Tags
+pub mod Pictures
+pub mod Drawn

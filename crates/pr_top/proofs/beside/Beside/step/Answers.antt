@@ -1,0 +1,28 @@
+use Rattle.std.proofs.Common.{◌∷◌, [], ap, arith, inl, refl, subst, ◌∙◌}
+use Rattle.pr_script.specs.declared.command.Command.{Command}
+use Rattle.pr_script.specs.Steps.{is_phase}
+use Rattle.pr_story.specs.Scripts.{ByTime}
+use Rattle.pr_top.specs.Progress.{HasCome}
+use Rattle.pr_top.proofs.Carried.{expect_carries}
+use Rattle.pr_top.proofs.beside.Beside.step.Goals as goal
+
+pub judge-requires : goal.judge-requires
+judge-requires g c =
+    let k = c.requires.come in
+    (ByTime, (k.0, k.1, subst (λ (x : Command). HasCome ByTime k.0 ((c.args.first.now.0, x) ∷ c.args.behind.now) k.1 c.args.run.now.engine c.args.run.now.unmet) c.in-Expect.is k.2))
+
+pub returns-in-Expect-clause-steps : goal.returns-in-Expect-clause-steps
+returns-in-Expect-clause-steps g c = λ s h k. (
+  omega arith,
+  (
+    [],
+    c.judge.ensures ByTime s h (subst (λ (x : Command). HasCome ByTime s ((c.args.first.now.0, x) ∷ c.args.behind.now) h c.args.run.now.engine c.args.run.now.unmet) c.in-Expect.is k),
+    inl refl,
+  ),
+)
+
+pub returns-in-Expect-clause-carried : goal.returns-in-Expect-clause-carried
+returns-in-Expect-clause-carried g c = λ s h k.
+    let told = g.W.Wires.carried c.args.wires.now in
+    expect_carries s c.args.first.now c.args.behind.now h c.args.run.now.engine c.args.run.now.unmet k (ap (λ (x : Command). is_phase x) c.in-Expect.is ∙ refl) c.judge.new.self.engine told told _ c.judge.new.self.unmet c.in-Expect.is refl
+    (c.judge.ensures ByTime s h (subst (λ (x : Command). HasCome ByTime s ((c.args.first.now.0, x) ∷ c.args.behind.now) h c.args.run.now.engine c.args.run.now.unmet) c.in-Expect.is k))

@@ -1,0 +1,20 @@
+// Reads a transcript from standard input, and writes its picture to standard output.
+#![tactic(auto)]
+
+use pr_draw::draw;
+use pr_ports::{ReaderSource, WriterSink};
+use pr_top::Status;
+use std::env;
+use std::io::{self, ErrorKind};
+use std::process::ExitCode;
+
+fn main(rt: HostRuntime) -> ExitCode {
+    let mut text = ReaderSource::new(rt.reader());
+    let mut out = WriterSink::new(io::writer(&rt));
+    let status = match env::args(&rt) {
+        Ok(words) => draw(rt.alloc(), words.skip(1).count(), &mut text, &mut out),
+        Err(error) if error.kind() == ErrorKind::OutOfMemory => Status::NoMemory,
+        Err(_) => Status::Usage,
+    };
+    ExitCode::from(status.number())
+}
