@@ -63,21 +63,21 @@ all_before xs s at e rise le some is last k d lt =
 
 -- ---- marks still rise with one more
 
-rises_tail : (x : Mark) (xs : List Mark) → Rises (x ∷ xs) → Rises xs
+pub rises_tail : (x : Mark) (xs : List Mark) → Rises (x ∷ xs) → Rises xs
 rises_tail x xs rise i j d lt within = rise (suc i) (suc j) d (omega arith) (omega arith)
 
-rises_head : (x : Mark) (xs : List Mark) → Rises (x ∷ xs) → All (λ (y : Mark). IsTrue (is_before x.stamp y.stamp)) xs
+pub rises_head : (x : Mark) (xs : List Mark) → Rises (x ∷ xs) → All (λ (y : Mark). IsTrue (is_before x.stamp y.stamp)) xs
 rises_head x xs rise k d lt = rise 0 (suc k) d (omega arith) (omega arith)
 
 all_cons : (P : Mark → Type 0) (x : Mark) (xs : List Mark) → P x → All P xs → All P (x ∷ xs)
 all_cons P x xs p ps zero d lt = p
 all_cons P x xs p ps (suc k) d lt = ps k d (omega arith)
 
-all_tail : (P : Mark → Type 0) (x : Mark) (xs : List Mark) → All P (x ∷ xs) → All P xs
+pub all_tail : (P : Mark → Type 0) (x : Mark) (xs : List Mark) → All P (x ∷ xs) → All P xs
 all_tail P x xs ps k d lt = ps (suc k) d (omega arith)
 
 -- by a test, and what its answer says
-by_test : {A : Type 0} (b : Bool) → (b ≡ true → A) → (b ≡ false → A) → A
+pub by_test : {A : Type 0} (b : Bool) → (b ≡ true → A) → (b ≡ false → A) → A
 by_test true then otherwise = then refl
 by_test false then otherwise = otherwise refl
 

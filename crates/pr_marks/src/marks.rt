@@ -146,7 +146,8 @@ impl Marks {
         }
     }
 
-    /// The conflicts of the name, by the earlier stamp and then the later one, in time quadratic in its marks.
+    /// The conflicts of the name, by the earlier stamp and then the later one, in time linear in its marks and in the
+    /// conflicts, and logarithmic in the names.
     pub fn pairs(&self, name: &Name) -> Result<Seq<(Stamp, Stamp)>, NoMemory>
         ensures { IfOk result (λ pairs. pairs ≡ pairs_of (marks_of self.now name.now)) }
     {

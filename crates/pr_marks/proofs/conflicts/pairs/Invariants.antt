@@ -1,7 +1,10 @@
-use Rattle.std.proofs.Common.{◌≡◌, take}
-use Rattle.std.specs.List.{flat_map}
-use Rattle.pr_marks.specs.Pairs.{pairs_with}
+use Rattle.std.proofs.Common.{◌≡◌, drop}
+use Rattle.pr_marks.proofs.FromLast.{left, pairs_back}
 use Rattle.pr_marks.proofs.conflicts.pairs.Given as goal
 
-abbrev pub invariant-loop-earlier : goal.invariant-loop-earlier
-invariant-loop-earlier l = l.pairs ≡ flat_map (pairs_with l.marks) (take l.earlier-index l.marks)
+-- what the marks from the next one's on give
+abbrev pub invariant-loop-at : goal.invariant-loop-at
+invariant-loop-at l = record {
+  pairs : l.pairs.items ≡ pairs_back (drop l.at l.marks);
+  later : l.later.items ≡ left (drop l.at l.marks);
+}
