@@ -22,6 +22,8 @@ pub mod Ready
 pub mod Receiving
 pub mod Sending
 pub mod Walk
+pub mod Scanning
+pub mod Waiting
 pub mod Going
 pub mod Stepping
 pub mod Snapshots

@@ -1,5 +1,5 @@
 -- What a write or a read of a client is, and what the client has seen after it.
-use Rattle.std.proofs.Common.{◌≡◌, ◌⊎◌, ℕ, ◌<◌, ◌≤◌, List, ◌∷◌, inl, inr, refl, sym, ◌∙◌, ap, subst, max, cond, nat_eq, arith}
+use Rattle.std.proofs.Common.{◌≡◌, ℕ, ◌≤◌, List, ◌∷◌, refl, sym, ◌∙◌, ap, subst, max, cond, nat_eq, arith}
 use Rattle.std.specs.Prelude.{true, false, Bool, IsTrue}
 use Rattle.std.proofs.lemmas.Bool.Decides.{Decides-eqb, nat_tests}
 use Rattle.pr_stamps.specs.Point.{Point}

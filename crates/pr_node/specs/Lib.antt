@@ -7,4 +7,5 @@ pub mod Taking
 pub mod Quiet
 pub mod Calls
 pub mod Sending
+pub mod Scanning
 pub mod Rebuilding

@@ -1,17 +1,14 @@
 -- How the stores of node n are tied to its journal j.
-use Rattle.std.specs.Prelude.{All, AllPairs, ℕ, List, ◌≡◌, ◌↔◌, ◌≤◌, ◌<◌, IsTrue, cond, Option, Some, None, length}
+use Rattle.std.specs.Prelude.{All, ℕ, List, ◌≡◌, ◌↔◌, ◌≤◌, ◌<◌, IsTrue, cond, None, length}
 use Rattle.pr_stamps.specs.Point.{Point, Before, IsStamp}
 use Rattle.pr_stamps.specs.declared.mark.Mark.{Mark}
 use Rattle.pr_sets.specs.Sets.{AreApart}
 use Rattle.pr_names.specs.Name.{IsName}
-use Rattle.pr_names.specs.Span.{Span}
-use Rattle.pr_sets.specs.Spans.{has, Meet}
 use Rattle.pr_vectors.specs.Vector.{Covers, is_covered}
 use Rattle.pr_inval.specs.declared.write_rec.WriteRec.{WriteRec}
 use Rattle.pr_log.specs.Log.{Logged, is_lit, Knows as KnowsIn}
 use Rattle.pr_gaps.specs.Gaps.{Told, IsTold as IsToldIn, set_at}
 use Rattle.pr_bodies.specs.Bodies.{Held, held}
-use Rattle.pr_stamps.specs.declared.newest.Newest.{Newest}
 use Rattle.pr_marks.specs.Row.{Rises}
 use Rattle.pr_marks.specs.Table.{Table, newest_of, marks_of}
 use Rattle.pr_story.specs.declared.entry.Entry.{Entry}

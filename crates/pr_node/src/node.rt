@@ -7,6 +7,7 @@ ghost use Rattle.pr_node.specs.Answering.{IsAnswerAt, reply_of};
 ghost use Rattle.pr_node.specs.Calls.{AddsAlone, AddsOfClient, AddsOfStream, IsAttachedAt, IsCheckpointSent, IsDone, IsDownFor, IsFault, IsMissed, IsMoveOf, IsSeen, IsStateEvent, IsStep, IsTaken, IsTimeWorn, IsWriteWorn};
 ghost use Rattle.pr_node.specs.Grammar.{IsStepSpelled};
 ghost use Rattle.pr_node.specs.Rebuilding.{IsOfNode};
+ghost use Rattle.pr_node.specs.Scanning.{IsScanOf};
 ghost use Rattle.pr_node.specs.Stored.{means};
 ghost use Rattle.pr_sets.specs.Sets.{AreApart};
 ghost use Rattle.pr_story.specs.History.{current_vector};
@@ -25,7 +26,7 @@ use crate::starting::{snapshot, start};
 use crate::taking::{gap, take};
 use crate::turning::{event_of, message, next_step, note};
 use crate::writing::{keep_write, next_write};
-use crate::{Answer, Done, Seen, Stores};
+use crate::{Answer, Done, Scan, Seen, Stores};
 use pr_bodies::Bodies;
 use pr_gaps::Gaps;
 use pr_inval::{Msg, NodeFault, Session, Step, Taken};
@@ -343,8 +344,8 @@ impl Node {
 
     /// The turn of a stream at its source ("PRACTI Replication", NSDI 2006, section 3.1): its next invalidation; where
     /// it has told all, the next body, if it sends bodies; or that it lies behind the cut, so that it wants a
-    /// checkpoint. It takes the time of the log's calls, and for a body a logarithmic look at each known name of the
-    /// subscription, up to the one that it sends.
+    /// checkpoint. It takes the time of `turn_from` with a fresh scan: of the log's calls, and for a body a logarithmic
+    /// look at each known name of the subscription, up to the one that it sends.
     pub fn turn(&mut self, caller: u32, session: &mut Session) -> Result<Step, NodeFault>
         requires { IsTrue (Standing.means session.old).attached }
         ensures grammar { IfOk result IsStepSpelled }
@@ -353,10 +354,34 @@ impl Node {
         ensures fault { IfErr result (IsFault (means self.old) (means self.new) (IsTimeWorn (means self.old) (Standing.means session.old).standing.time)) }
         ensures spent { self.old.spent ≡ true → result ≡ Err faults.NoMemory }
     {
+        let mut scan = Scan::new(self.alloc);
+        self.turn_from(caller, session, &mut scan)
+    }
+
+    /// The same turn, from where the stream's scan has come. For a body it takes a look at each entry that was made since
+    /// the scan last looked, and a logarithmic one at each name that these changed and at each known name of the
+    /// subscription that it has not passed, up to the one that is sent. So many turns look at each entry once for each
+    /// scan, and at a name once for each time that it changed, and once more.
+    pub fn turn_from(
+        &mut self,
+        caller: u32,
+        session: &mut Session,
+        scan: &mut Scan,
+    ) -> Result<Step, NodeFault>
+        requires attached { IsTrue (Standing.means session.old).attached }
+        requires scan { IsScanOf scan.old (Standing.means session.old).standing (means self.old).journal }
+        ensures grammar { IfOk result IsStepSpelled }
+        ensures ok { IfOk result (λ step. AddsOfStream (means self.old) (means self.new) (Standing.means session.old).standing caller (λ e. IsStep (Standing.means session.old).stream step e × HasGoneOn (Standing.means session.old) (Standing.means session.new) true e)) }
+        ensures session { OnErr result (IsSameSession (Standing.means session.old) (Standing.means session.new)) }
+        ensures scan { IsScanOf scan.new (Standing.means session.new).standing (means self.new).journal }
+        ensures fault { IfErr result (IsFault (means self.old) (means self.new) (IsTimeWorn (means self.old) (Standing.means session.old).standing.time)) }
+        ensures spent { self.old.spent ≡ true → result ≡ Err faults.NoMemory }
+    {
         let time = self.diary.begin(session.time())?;
         let _ = session.number();
         session.room()?;
-        let step = next_step(self.alloc, &self.stores, session, time)?;
+        let entries = self.diary.journal().entries();
+        let step = next_step(self.alloc, &self.stores, entries, session, scan, time)?;
         let event = event_of(self.alloc, &step, session.stream())?;
         note(session, &step, time);
         self.diary.finish(time, caller, event);

@@ -1,48 +1,60 @@
 // The turn of a stream at its source.
 ghost use Rattle.pr_inval.specs.Standing.{means};
 ghost use Rattle.pr_inval.specs.declared.kind.Kind.{Kind};
+ghost use Rattle.pr_node.specs.Scanning.{IsScanOf};
 ghost use Rattle.pr_node.specs.Sending.{IsKindOrNone, IsNextKind, IsNextStep, IsStepInRange, IsStepOf};
 ghost use Rattle.pr_node.specs.Ties.{IsTied};
 ghost use Rattle.pr_story.specs.Ranges.{IsKind, IsMsg};
 ghost use Rattle.pr_story.specs.Turns.{event_of};
-ghost use Rattle.pr_story.specs.declared.entry.Entry.{Entry};
 ghost use Rattle.pr_story.specs.declared.event.Event.TheVariants.{Sent};
 ghost use Rattle.pr_vectors.specs.Vector.{Le};
-ghost use Rattle.std.specs.Prelude.{◌≡◌, ◌≤◌, ◌<◌, ◌+◌, ℕ, List, IfOk, IsTrue};
+ghost use Rattle.std.specs.Prelude.{◌≡◌, ◌≤◌, ◌<◌, ◌+◌, ℕ, IfOk, IsTrue, reverse};
 ghost use Rattle.pr_story.specs.Sessions.{HasGoneOn};
 
-use crate::Stores;
 use crate::ahead::ahead;
 use crate::waiting_bodies::next_body;
+use crate::{Scan, Stores};
 use pr_inval::{Kind, Msg, Session, Step};
 use pr_stamps::NoMemory;
-use pr_story::Event;
+use pr_story::{Entry, Event};
 use std::alloc::Global;
 
-// What the source of a stream with this session does next.
+// What the source of a stream with this session does next, where its node has made these entries.
 pub fn next_step(
     alloc: Global,
     stores: &Stores,
+    entries: &[Entry],
     session: &Session,
+    scan: &mut Scan,
     time: u64,
 ) -> Result<Step, NoMemory>
-    ensures next { IfOk result (λ step. (n : ℕ) (j : List Entry) → IsTied n j stores.now → IsNextStep n j (means session.now) time step) }
+    requires scan { IsScanOf scan.old (means session.now).standing (reverse entries.now) }
+    ensures next { IfOk result (λ step. (n : ℕ) → IsTied n (reverse entries.now) stores.now → IsNextStep n (reverse entries.now) (means session.now) time step) }
+    ensures scan { (n : ℕ) → IsTied n (reverse entries.now) stores.now → IsScanOf scan.new (means session.now).standing (reverse entries.now) }
     ensures range { IfOk result IsStepInRange }
 {
     let cut = stores.log.cut_at();
     if !cut.le(&session.pos()) {
         return Ok(Step::Stale { cut });
     }
-    match next_kind(alloc, stores, session)? {
+    match next_kind(alloc, stores, entries, session, scan)? {
         Some(kind) => Ok(Step::Sent(message(session, kind, time))),
         None => Ok(Step::Idle),
     }
 }
 
 // What is sent, if anything is, where the position is not behind the cut.
-fn next_kind(alloc: Global, stores: &Stores, session: &Session) -> Result<Option<Kind>, NoMemory>
-    requires { Le stores.now.log.cut (means session.now).standing.position }
-    ensures next { IfOk result (λ kind. (n : ℕ) (j : List Entry) → IsTied n j stores.now → IsNextKind n j (means session.now).standing kind) }
+fn next_kind(
+    alloc: Global,
+    stores: &Stores,
+    entries: &[Entry],
+    session: &Session,
+    scan: &mut Scan,
+) -> Result<Option<Kind>, NoMemory>
+    requires cut { Le stores.now.log.cut (means session.now).standing.position }
+    requires scan { IsScanOf scan.old (means session.now).standing (reverse entries.now) }
+    ensures next { IfOk result (λ kind. (n : ℕ) → IsTied n (reverse entries.now) stores.now → IsNextKind n (reverse entries.now) (means session.now).standing kind) }
+    ensures scan { (n : ℕ) → IsTied n (reverse entries.now) stores.now → IsScanOf scan.new (means session.now).standing (reverse entries.now) }
     ensures range { IfOk result IsKindOrNone }
 {
     let position = session.pos();
@@ -51,7 +63,7 @@ fn next_kind(alloc: Global, stores: &Stores, session: &Session) -> Result<Option
         return Ok(Some(kind));
     }
     if session.bodies() {
-        return next_body(alloc, stores, session);
+        return next_body(alloc, stores, entries, session, scan);
     }
     Ok(None)
 }

@@ -1,37 +1,88 @@
 // The body that a stream's source sends where the stream has told all.
 ghost use Rattle.pr_inval.specs.Standing.{means};
+ghost use Rattle.pr_node.specs.Scanning.{AreWaiting, HasPassed, IsScanOf};
 ghost use Rattle.pr_node.specs.Sending.{IsKindOrNone, IsNextBodyOf};
 ghost use Rattle.pr_node.specs.Ties.{IsTied};
 ghost use Rattle.pr_sets.specs.Spans.{has};
 ghost use Rattle.pr_story.specs.Ranges.{IsBytes};
 ghost use Rattle.pr_story.specs.Sending.{IsBodyOf};
 ghost use Rattle.pr_story.specs.declared.entry.Entry.{Entry};
-ghost use Rattle.std.specs.Prelude.{◌≡◌, ℕ, List, IfOk, IsTrue};
+ghost use Rattle.std.specs.Prelude.{◌≡◌, [], ℕ, List, IfNone, IfOk, IfSome, IsTrue, Some, length, reverse};
 
-use crate::Stores;
+use crate::looking::catch_up;
+use crate::{Scan, Stores};
 use pr_inval::{Bytes, Kind, Session};
 use pr_names::Name;
 use pr_snap::next_known_in;
 use pr_stamps::{NoMemory, Seq, Stamp};
+use pr_story::Entry;
 use std::alloc::Global;
 
 // The body of the least name of the subscription whose newest write is held and was not sent, if there is one. It looks
-// at the known names of the subscription, up to that one.
+// at the names that changed since the scan last looked, and then at the known names past the last one.
 pub fn next_body(
     alloc: Global,
     stores: &Stores,
+    entries: &[Entry],
     session: &Session,
+    scan: &mut Scan,
 ) -> Result<Option<Kind>, NoMemory>
-    ensures next { IfOk result (λ kind. (n : ℕ) (j : List Entry) → IsTied n j stores.now → IsNextBodyOf j (means session.now).standing kind) }
+    requires scan { IsScanOf scan.old (means session.now).standing (reverse entries.now) }
+    ensures next { IfOk result (λ kind. (n : ℕ) → IsTied n (reverse entries.now) stores.now → IsNextBodyOf (reverse entries.now) (means session.now).standing kind) }
+    ensures scan { (n : ℕ) → IsTied n (reverse entries.now) stores.now → IsScanOf scan.new (means session.now).standing (reverse entries.now) }
     ensures range { IfOk result IsKindOrNone }
 {
-    let names = session.sub();
-    let mut last = None;
-    while let Some(name) = next_known_in(&stores.marks, names, &last) {
+    catch_up(scan, entries, session)?;
+    if let Some(kind) = waiting_body(alloc, stores, session, scan)? {
+        return Ok(Some(kind));
+    }
+    body_past(alloc, stores, session, scan)
+}
+
+// The body of the least of the names that wait, if one is to be sent. Those that have none wait no more.
+fn waiting_body(
+    alloc: Global,
+    stores: &Stores,
+    session: &Session,
+    scan: &mut Scan,
+) -> Result<Option<Kind>, NoMemory>
+    requires waiting { AreWaiting scan.old (means session.now).standing }
+    ensures next { IfOk result (λ kind. IfSome kind (λ k. (n : ℕ) (j : List Entry) → IsTied n j stores.now → HasPassed scan.old (means session.now).standing j → IsNextBodyOf j (means session.now).standing (Some k))) }
+    ensures none { IfOk result (λ kind. IfNone kind (scan.new.waiting ≡ [])) }
+    ensures passed { (n : ℕ) (j : List Entry) → IsTied n j stores.now → HasPassed scan.old (means session.now).standing j → HasPassed scan.new (means session.now).standing j }
+    ensures waiting { AreWaiting scan.new (means session.now).standing }
+    ensures looked { scan.new.looked ≡ scan.old.looked }
+    ensures range { IfOk result IsKindOrNone }
+{
+    while let Some(name) = scan.first() {
         if let Some(kind) = body_of(alloc, stores, session, &name)? {
             return Ok(Some(kind));
         }
-        last = Some(name);
+        scan.leave_first();
+    }
+    Ok(None)
+}
+
+// The body of the least name past the last one, if one is to be sent. Those before it are passed.
+fn body_past(
+    alloc: Global,
+    stores: &Stores,
+    session: &Session,
+    scan: &mut Scan,
+) -> Result<Option<Kind>, NoMemory>
+    requires none { scan.old.waiting ≡ [] }
+    ensures next { IfOk result (λ kind. (n : ℕ) (j : List Entry) → IsTied n j stores.now → HasPassed scan.old (means session.now).standing j → IsNextBodyOf j (means session.now).standing kind) }
+    ensures passed { (n : ℕ) (j : List Entry) → IsTied n j stores.now → HasPassed scan.old (means session.now).standing j → HasPassed scan.new (means session.now).standing j }
+    ensures none { scan.new.waiting ≡ [] }
+    ensures looked { scan.new.looked ≡ scan.old.looked }
+    ensures range { IfOk result IsKindOrNone }
+{
+    let names = session.sub();
+    while let Some(name) = next_known_in(&stores.marks, names, &scan.last()) {
+        if let Some(kind) = body_of(alloc, stores, session, &name)? {
+            return Ok(Some(kind));
+        }
+        scan.pass(&name);
     }
     Ok(None)
 }

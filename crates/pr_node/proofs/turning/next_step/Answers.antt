@@ -1,4 +1,4 @@
-use Rattle.std.proofs.Common.{subst}
+use Rattle.std.proofs.Common.{reverse, subst}
 use Rattle.std.specs.Prelude.{Option}
 use Rattle.pr_inval.specs.declared.kind.Kind.{Kind}
 use Rattle.pr_inval.specs.Standing.{means}
@@ -6,4 +6,4 @@ use Rattle.pr_node.specs.Sending.{IsNextKind}
 use Rattle.pr_node.proofs.turning.next_step.Goals as goal
 
 pub returns-in-None-clause-next : goal.returns-in-None-clause-next
-returns-in-None-clause-next c n j f = subst (λ (k : Option Kind). IsNextKind n j (means c.args.session.now).standing k) c.in-None.is (c.in_ok-kind.ensures.next n j f)
+returns-in-None-clause-next c n f = subst (λ (k : Option Kind). IsNextKind n (reverse c.args.entries.now) (means c.args.session.now).standing k) c.in-None.is (c.in_ok-kind.ensures.next n f)

@@ -1,32 +1,43 @@
-use Rattle.std.proofs.Common.{subst, Some, None}
-use Rattle.std.specs.Prelude.{Option}
+use Rattle.std.proofs.Common.{ℕ, List, ◌∙◌, reverse, subst}
+use Rattle.std.specs.Prelude.{IfSome, Option, Some}
 use Rattle.pr_inval.specs.declared.kind.Kind.{Kind}
 use Rattle.pr_inval.specs.Standing.{means}
-use Rattle.pr_marks.specs.Table.{names_of}
-use Rattle.pr_story.specs.Sending.{IsBodyOf}
-use Rattle.pr_snap.proofs.KnownNames.{fewer_next, named_so, next_in_set}
-use Rattle.pr_node.proofs.Walk.{passed_all, passed_more, passed_to}
+use Rattle.pr_story.specs.declared.entry.Entry.{Entry}
+use Rattle.pr_story.proofs.Withholding.{if_ok}
+use Rattle.pr_node.specs.Scanning.{HasPassed}
+use Rattle.pr_node.specs.Sending.{IsNextBodyOf}
+use Rattle.pr_node.specs.Ties.{IsTied}
+use Rattle.pr_node.proofs.Scanning.{none_waiting, passed_whole, scan_at}
 use Rattle.pr_node.proofs.waiting_bodies.next_body.Goals as goal
 
-pub loop-name-smaller : goal.loop-name-smaller
-loop-name-smaller c = fewer_next c.loop-name.last c.sub-names.result.now (names_of c.args.stores.now.marks) c.in-Some.name c.in-Some.ensures.value
+pub returns-in_err-kind-clause-scan : goal.returns-in_err-kind-clause-scan
+returns-in_err-kind-clause-scan c n f =
+    scan_at c.waiting_body.new.scan (means c.args.session.now).standing c.args.entries.now (c.waiting_body.ensures.looked ∙ c.in_ok-catch_up.ensures.looked) c.waiting_body.ensures.waiting
+    (c.waiting_body.ensures.passed n (reverse c.args.entries.now) f (passed_whole c.catch_up.new.scan (means c.args.session.now).standing c.args.entries.now c.in_ok-catch_up.ensures.looked c.catch_up.ensures.scan))
 
-pub loop-name-preserved : goal.loop-name-preserved
-loop-name-preserved c n j f =
-    passed_more j c.args.stores.now.marks (means c.args.session.now).standing c.loop-name.last c.in-Some.name f.marks c.in-Some.ensures.order
-    (named_so (Some c.in-Some.name) c.loop-name.last c.sub-names.result.now _ (names_of c.args.stores.now.marks) c.sub-names.ensures.value c.in-Some.ensures.value)
-    (subst (λ (k : Option Kind). IsBodyOf j (means c.args.session.now).standing c.in-Some.name k) c.in_default-2.is (c.in_ok-kind.ensures.body n j f)) (c.loop-name.invariant n j f)
+pub returns-in-Some-clause-next : goal.returns-in-Some-clause-next
+returns-in-Some-clause-next c n f =
+    subst (λ (kind : Option Kind). IfSome kind (λ k. (n : ℕ) (j : List Entry) → IsTied n j c.args.stores.now → HasPassed c.catch_up.new.scan (means c.args.session.now).standing j → IsNextBodyOf j (means c.args.session.now).standing (Some k)))
+    c.in-Some.is c.in_ok-kind.ensures.next n (reverse c.args.entries.now) f
+    (passed_whole c.catch_up.new.scan (means c.args.session.now).standing c.args.entries.now c.in_ok-catch_up.ensures.looked c.catch_up.ensures.scan)
 
-pub returns-in-Some-2-clause-next : goal.returns-in-Some-2-clause-next
-returns-in-Some-2-clause-next c n j f =
-    passed_to j c.args.stores.now.marks (means c.args.session.now).standing c.loop-name.last c.in-Some.name c.in-Some-2.kind f.marks c.in-Some.ensures.order
-    (named_so (Some c.in-Some.name) c.loop-name.last c.sub-names.result.now _ (names_of c.args.stores.now.marks) c.sub-names.ensures.value c.in-Some.ensures.value)
-    (subst (λ (k : Option Kind). IsBodyOf j (means c.args.session.now).standing c.in-Some.name k) c.in-Some-2.is (c.in_ok-kind.ensures.body n j f)) (c.loop-name.invariant n j f)
+pub returns-in-Some-clause-scan : goal.returns-in-Some-clause-scan
+returns-in-Some-clause-scan c n f =
+    scan_at c.waiting_body.new.scan (means c.args.session.now).standing c.args.entries.now (c.waiting_body.ensures.looked ∙ c.in_ok-catch_up.ensures.looked) c.waiting_body.ensures.waiting
+    (c.waiting_body.ensures.passed n (reverse c.args.entries.now) f (passed_whole c.catch_up.new.scan (means c.args.session.now).standing c.args.entries.now c.in_ok-catch_up.ensures.looked c.catch_up.ensures.scan))
 
 pub returns-clause-next : goal.returns-clause-next
-returns-clause-next c n j f =
-    passed_all j c.args.stores.now.marks (means c.args.session.now).standing c.loop-name.last f.marks
-    (named_so None c.loop-name.last c.sub-names.result.now _ (names_of c.args.stores.now.marks) c.sub-names.ensures.value c.in_default.ensures.value) (c.loop-name.invariant n j f)
+returns-clause-next c =
+    let N : Option Kind → Type 0 = λ kind. (n : ℕ) (j : List Entry) → IsTied n j c.args.stores.now → HasPassed c.waiting_body.new.scan (means c.args.session.now).standing j → IsNextBodyOf j (means c.args.session.now).standing kind in
+    let K : Option Kind → Type 0 = λ kind. (n : ℕ) → IsTied n (reverse c.args.entries.now) c.args.stores.now → IsNextBodyOf (reverse c.args.entries.now) (means c.args.session.now).standing kind in
+    if_ok c.body_past.result N K
+    (λ kind so n f. so n (reverse c.args.entries.now) f
+    (c.waiting_body.ensures.passed n (reverse c.args.entries.now) f (passed_whole c.catch_up.new.scan (means c.args.session.now).standing c.args.entries.now c.in_ok-catch_up.ensures.looked c.catch_up.ensures.scan)))
+    c.body_past.ensures.next
 
-pub body_of-requires : goal.body_of-requires
-body_of-requires c = next_in_set c.loop-name.last c.sub-names.result.now _ (names_of c.args.stores.now.marks) c.in-Some.name c.sub-names.ensures.value c.in-Some.ensures.value
+pub returns-clause-scan : goal.returns-clause-scan
+returns-clause-scan c n f =
+    scan_at c.body_past.new.scan (means c.args.session.now).standing c.args.entries.now (c.body_past.ensures.looked ∙ c.waiting_body.ensures.looked ∙ c.in_ok-catch_up.ensures.looked)
+    (none_waiting c.body_past.new.scan (means c.args.session.now).standing c.body_past.ensures.none)
+    (c.body_past.ensures.passed n (reverse c.args.entries.now) f
+    (c.waiting_body.ensures.passed n (reverse c.args.entries.now) f (passed_whole c.catch_up.new.scan (means c.args.session.now).standing c.args.entries.now c.in_ok-catch_up.ensures.looked c.catch_up.ensures.scan)))
