@@ -5,3 +5,4 @@ pub mod Taking
 pub mod Ending
 pub mod Lies
 pub mod Crossing
+pub mod Sound
