@@ -28,3 +28,5 @@ pub mod Appending
 pub mod Represented
 pub mod Crossing
 pub mod Carrying
+pub mod Sound
+pub mod SoundLines

@@ -9,3 +9,4 @@ pub mod Settles
 pub mod Flowing
 pub mod Crossing
 pub mod Holding
+pub mod Sound

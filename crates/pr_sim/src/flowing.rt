@@ -6,12 +6,13 @@ ghost use Rattle.pr_flow.specs.Flows.{crossed};
 ghost use Rattle.pr_sim.specs.Crossing.{Adds, Crosses, FlowCarries};
 ghost use Rattle.pr_sim.specs.Flowing.{AreFewWires, CanGoDown, FlowEndsSo, IsArrival, IsBegun, IsDownMade, IsOnTheWay, IsUnderWay, MovesOn, StopsByWires, StopsSo, TurnsEnd};
 ghost use Rattle.pr_sim.specs.Running.{HasAttached, IsKept};
+ghost use Rattle.pr_sim.specs.Sound.{AddsSound, GrowsSound};
 ghost use Rattle.pr_story.specs.History.{WasSent};
 ghost use Rattle.pr_story.specs.Scripts.{events_of};
 ghost use Rattle.pr_inval.specs.Messages.{IsMessage};
 ghost use Rattle.pr_wire.specs.Spelling.{spelling};
 ghost use Rattle.pr_wire.specs.declared.format.Format.TheVariants.{Two};
-ghost use Rattle.std.specs.Prelude.{◌≡◌, ◌<◌, ◌+◌, ℕ, None, Some, length};
+ghost use Rattle.std.specs.Prelude.{◌≡◌, ◌<◌, ◌+◌, ℕ, IsTrue, None, Some, length};
 
 use crate::engine::{CALLER, Engine};
 use crate::slots::{give, route, take};
@@ -37,6 +38,7 @@ impl Engine {
         ensures flowed { ForEachRun self.old (λ d attached h. FlowEndsSo stream turns d attached h self.new result) }
         ensures carried { ForEachRun self.old (λ d attached h. FlowCarries stream (W.carried wires.old) (W.carried wires.new) d attached h self.new result) }
         ensures wires { StopsByWires W.faults W.made W.out W.sound wires.old wires.new result }
+        ensures sound_events { ForEachRun self.old (λ d attached h. IsTrue (W.sound wires.old (W.made wires.old + 1)) → AddsSound d h self.new) }
     {
         let ends = route(&self.routes, stream);
         match wires.connect(ends.source, ends.destination) {
@@ -66,6 +68,7 @@ impl Engine {
         ensures flowed { ForEachRun self.old (λ d attached h. Grows (λ end es. TurnsEnd stream None turns 0 end (events_of es)) (λ es. IsBegun stream None turns (events_of es)) d attached h self.new result) }
         ensures crossed { ForEachRun self.old (λ d attached h. Adds (λ end es. Crosses (W.state wire.old) (W.state wire.new) stream None end (events_of es)) d attached h self.new result) }
         ensures wire { EndsByWire (W.state wire.old) (W.state wire.new) result }
+        ensures sound { ForEachRun self.old (λ d attached h. GrowsSound d attached h self.new result) }
     {
         let mut left = turns;
         while left > 0 {
@@ -87,6 +90,7 @@ impl Engine {
         ensures flowed { ForEachRun self.old (λ d attached h. Grows (λ end es. (left : ℕ) → TurnsEnd stream None (left + 1) left end (events_of es)) (λ es. (left : ℕ) → IsBegun stream None (left + 1) (events_of es)) d attached h self.new result) }
         ensures crossed { ForEachRun self.old (λ d attached h. Adds (λ end es. Crosses (W.state wire.old) (W.state wire.new) stream None end (events_of es)) d attached h self.new result) }
         ensures wire { MovesOn (W.state wire.old) (W.state wire.new) result }
+        ensures sound { ForEachRun self.old (λ d attached h. GrowsSound d attached h self.new result) }
     {
         match self.turn(stream)? {
             Step::Idle => Ok(FlowEnd::Done),
@@ -104,6 +108,7 @@ impl Engine {
         ensures flowed { ForEachRun self.old (λ d attached h. IsOnTheWay h stream msg.now → Grows (λ end es. (left : ℕ) → TurnsEnd stream (Some msg.now) left left end (events_of es)) (λ es. (left : ℕ) → IsBegun stream (Some msg.now) left (events_of es)) d attached h self.new result) }
         ensures crossed { ForEachRun self.old (λ d attached h. IsOnTheWay h stream msg.now → Adds (λ end es. Crosses (W.state wire.old) (W.state wire.new) stream (Some msg.now) end (events_of es)) d attached h self.new result) }
         ensures wire { MovesOn (W.state wire.old) (W.state wire.new) result }
+        ensures sound { ForEachRun self.old (λ d attached h. IsOnTheWay h stream msg.now → GrowsSound d attached h self.new result) }
     {
         match carry(self.alloc, msg, wire)? {
             Carried::Whole(msg) => self.arrive(stream, msg),
@@ -127,6 +132,7 @@ impl Engine {
         ensures flowed { ForEachRun self.old (λ d attached h. IsOnTheWay h stream msg → Grows (λ end es. (left : ℕ) → TurnsEnd stream (Some msg) left left end (events_of es)) (λ es. (left : ℕ) → IsBegun stream (Some msg) left (events_of es)) d attached h self.new result) }
         ensures crossed { ForEachRun self.old (λ d attached h. IsOnTheWay h stream msg → Adds (λ end es. crossed (events_of es) ≡ spelling Two msg) d attached h self.new result) }
         ensures end { IsArrival result }
+        ensures sound { ForEachRun self.old (λ d attached h. IsOnTheWay h stream msg → GrowsSound d attached h self.new result) }
     {
         match self.take_in(stream, msg)? {
             Taken::Accepted { .. } => Ok(FlowEnd::Done),

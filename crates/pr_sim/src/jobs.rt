@@ -5,11 +5,12 @@ ghost use Rattle.pr_sim.specs.Crossing.{JobAdds, PhaseCarries};
 ghost use Rattle.pr_sim.specs.Flowing.{AreFewWires};
 ghost use Rattle.pr_sim.specs.Phasing.{CanDo, CanRunPhase, GivesAll, GoodPhaseCanRun, IsJobLine, JobEnds, asked_by, asked_of};
 ghost use Rattle.pr_sim.specs.Running.{IsKept};
+ghost use Rattle.pr_sim.specs.Sound.{AddsSound};
 ghost use Rattle.pr_sim.specs.Stepping.{CanRun, StepsByWires};
 ghost use Rattle.pr_story.specs.Scripts.{Phase};
 ghost use Rattle.pr_text.specs.Steps.{job_of, jobs_of};
 ghost use Rattle.std.specs.List.{AllByRecursion};
-ghost use Rattle.std.specs.Prelude.{◌≤◌, ◌+◌, ◌^◌};
+ghost use Rattle.std.specs.Prelude.{◌≤◌, ◌+◌, ◌^◌, ℕ, IsTrue};
 
 use crate::engine::Engine;
 use crate::stepping::{stopped, went};
@@ -35,6 +36,7 @@ impl Engine {
         ensures steps { ForEachRun self.old (λ d attached h. StepEnds (Phase (jobs_of inside.now)) d attached h self.new result) }
         ensures carried { ForEachRun self.old (λ d attached h. PhaseCarries (jobs_of inside.now) (W.carried wires.old) (W.carried wires.new) d attached h self.new result) }
         ensures wires { StepsByWires W.faults W.made W.out W.sound 64 wires.old wires.new result }
+        ensures sound_events { ForEachRun self.old (λ d attached h. ((k : ℕ) → IsTrue (W.sound wires.old k)) → AddsSound d h self.new) }
     {
         let owners = owners(self.alloc, inside)?;
         for owner in owners.as_slice() {
@@ -60,6 +62,7 @@ impl Engine {
         ensures ends { ForEachRun self.old (λ d attached h. JobEnds (job_of inside.now owner) d attached h self.new result) }
         ensures carried { ForEachRun self.old (λ d attached h. JobAdds (job_of inside.now owner) (W.carried wires.old) (W.carried wires.new) d attached h self.new result) }
         ensures wires { StepsByWires W.faults W.made W.out W.sound 1 wires.old wires.new result }
+        ensures sound_events { ForEachRun self.old (λ d attached h. IsTrue (W.sound wires.old (W.made wires.old + 1)) → AddsSound d h self.new) }
     {
         match owner {
             Owner::Client(client) => went(self.client_job(client, inside)),

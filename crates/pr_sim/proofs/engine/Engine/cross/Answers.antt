@@ -1,4 +1,4 @@
-use Rattle.std.proofs.Common.{[], ◌∷◌, refl, sym, subst}
+use Rattle.std.proofs.Common.{[], ◌∷◌, Ok, refl, sym, subst}
 use Rattle.std.specs.Prelude.{Some}
 use Rattle.pr_inval.specs.declared.msg.Msg.{Msg}
 use Rattle.pr_flow.specs.declared.carrying.Carried.{Carried}
@@ -10,11 +10,15 @@ use Rattle.pr_sim.specs.Flowing.{IsBegun, IsOnTheWay, TurnsEnd}
 use Rattle.pr_sim.proofs.Faults.{no_memory, stopped_same, this_cause}
 use Rattle.pr_sim.proofs.Flows.{cut_can, cut_is_no_gap, down_is, not_grown, sent_begun}
 use Rattle.pr_sim.specs.Crossing.{Adds, Crosses}
+use Rattle.pr_flow.specs.declared.flow_end.FlowEnd.{FlowEnd}
+use Rattle.pr_flow.specs.Ending.{IsSoundEnd}
 use Rattle.pr_flow.specs.Flows.{crossed}
+use Rattle.pr_flow.specs.Sound.{AreSoundEvents}
 use Rattle.pr_wire.specs.Spelling.{spelling}
 use Rattle.pr_wire.specs.declared.format.Format.TheVariants.{Two}
 use Rattle.pr_sim.proofs.Carrying.{none_added}
 use Rattle.pr_sim.proofs.Crossing.{arrival_crosses, cut_crosses}
+use Rattle.pr_sim.proofs.Sound.{cut_unsound}
 use Rattle.pr_sim.proofs.engine.Engine.cross.Goals as goal
 
 pub returns-in_err-msg-clause-flowed : goal.returns-in_err-msg-clause-flowed
@@ -79,3 +83,31 @@ returns-in-Lied-clause-crossed g c d attached h k way =
     let w = g.W.Wire in
     let moved = subst (λ (x : Carried). HasCarried (w.state c.args.wire.now) (w.state c.carry.new.wire) c.args.msg.now x) c.in-Lied.is c.in_ok-msg.ensures.moved in
     ([], k, (c.in-Lied.got, moved.1.1.taken, refl))
+
+pub returns-in_err-msg-clause-sound : goal.returns-in_err-msg-clause-sound
+returns-in_err-msg-clause-sound g c d attached h k way =
+    not_grown d attached h (λ (end : FlowEnd) es. IsSoundEnd (Ok end) → AreSoundEvents es) (λ es. AreSoundEvents es) c.args.self.now _ c.from_residual.result c.from_residual.ensures.1 (no_memory h) (stopped_same d attached h c.args.self.now c.args.self.now k refl refl) tt
+
+pub returns-in_err-go_down-in-Cut-clause-sound : goal.returns-in_err-go_down-in-Cut-clause-sound
+returns-in_err-go_down-in-Cut-clause-sound g c d attached h k way =
+    let w = g.W.Wire in
+    let moved = subst (λ (x : Carried). HasCarried (w.state c.args.wire.now) (w.state c.carry.new.wire) c.args.msg.now x) c.in-Cut.is c.in_ok-msg.ensures.moved in
+    let was = c.in_err-go_down-in-Cut.ensures d attached h k (cut_can d.plan h c.args.stream c.in-Cut.cause (w.state c.args.wire.now) (w.state c.carry.new.wire) moved.0 way.2) in
+    not_grown d attached h (λ (end : FlowEnd) es. IsSoundEnd (Ok end) → AreSoundEvents es) (λ es. AreSoundEvents es) c.go_down.new.self _ c.from_residual-in_err-go_down-in-Cut.result c.from_residual-in_err-go_down-in-Cut.ensures.1
+    (λ fault is. this_cause h c.in_err-go_down-in-Cut.field-0.0 fault was.1 is) was.0 tt
+
+pub returns-in-Whole-clause-sound : goal.returns-in-Whole-clause-sound
+returns-in-Whole-clause-sound g c d attached h k way =
+    let w = g.W.Wire in
+    let moved = subst (λ (x : Carried). HasCarried (w.state c.args.wire.now) (w.state c.carry.new.wire) c.args.msg.now x) c.in-Whole.is c.in_ok-msg.ensures.moved in
+    c.arrive.ensures.sound d attached h k (subst (λ (m : Msg). IsOnTheWay h c.args.stream m) (sym moved.0) way)
+
+pub returns-in_ok-go_down-in-Cut-clause-sound : goal.returns-in_ok-go_down-in-Cut-clause-sound
+returns-in_ok-go_down-in-Cut-clause-sound g c d attached h k way =
+    let w = g.W.Wire in
+    let moved = subst (λ (x : Carried). HasCarried (w.state c.args.wire.now) (w.state c.carry.new.wire) c.args.msg.now x) c.in-Cut.is c.in_ok-msg.ensures.moved in
+    let made = c.in_ok-go_down-in-Cut.ensures d attached h k (cut_can d.plan h c.args.stream c.in-Cut.cause (w.state c.args.wire.now) (w.state c.carry.new.wire) moved.0 way.2) in
+    (made.0 ∷ [], made.1, λ ends. absurd (cut_unsound c.in-Cut.cause (w.state c.args.wire.now) (w.state c.carry.new.wire) moved.0 ends))
+
+pub returns-in-Lied-clause-sound : goal.returns-in-Lied-clause-sound
+returns-in-Lied-clause-sound g c d attached h k way = ([], k, λ ends. absurd ends)

@@ -1,4 +1,4 @@
-use Rattle.std.proofs.Common.{[], ◌∷◌, Err, inr, ap}
+use Rattle.std.proofs.Common.{[], ◌∷◌, ◌+◌, Ok, Err, inr, ap}
 use Rattle.std.specs.Prelude.{None}
 use Rattle.pr_flow.specs.declared.flow_end.FlowEnd.{FlowEnd}
 use Rattle.pr_story.specs.declared.event.Event.{Event}
@@ -8,6 +8,7 @@ use Rattle.pr_sim.specs.Flowing.{IsBegun, TurnsEnd}
 use Rattle.pr_sim.proofs.Flows.{grows_behind, is_attached}
 use Rattle.pr_sim.proofs.Turns.{failed_begins, flow_begins, flow_failed, stop_ends}
 use Rattle.pr_sim.proofs.Crossing.{failed_carries, stop_carries}
+use Rattle.pr_sim.proofs.Sound.{flow_adds_sound, not_sound}
 use Rattle.pr_sim.proofs.engine.Engine.flow.Goals as goal
 
 pub returns-in_err-go_down-in-Err-clause-flowed : goal.returns-in_err-go_down-in-Err-clause-flowed
@@ -47,3 +48,17 @@ returns-in_ok-end-in-Ok-clause-carried g c d attached h k =
     let carried = g.W.Wires.carried in
     stop_carries c.args.stream c.args.turns d attached h c.flow_over-end.new.self (carried c.args.wires.now) (carried c.connect.new.self) (carried c.close.new.self) (w.state c.in-Ok.wire) (w.state c.flow_over-end.new.wire) c.in-Ok.ensures.unused.taken c.connect.ensures.same.1 c.close.ensures.carried
     c.in_ok-end-in-Ok.field-0 c.stop_of.result c.stop_of.ensures (c.in_ok-end-in-Ok.ensures.flowed d attached h k) (c.in_ok-end-in-Ok.ensures.crossed d attached h k)
+
+pub returns-in_err-go_down-in-Err-clause-sound_events : goal.returns-in_err-go_down-in-Err-clause-sound_events
+returns-in_err-go_down-in-Err-clause-sound_events g c d attached h k sound = absurd (not_sound (g.W.Wires.sound c.args.wires.now (g.W.Wires.made c.args.wires.now + 1)) sound c.in-Err.ensures.sound)
+
+pub returns-in_ok-go_down-in-Err-clause-sound_events : goal.returns-in_ok-go_down-in-Err-clause-sound_events
+returns-in_ok-go_down-in-Err-clause-sound_events g c d attached h k sound = absurd (not_sound (g.W.Wires.sound c.args.wires.now (g.W.Wires.made c.args.wires.now + 1)) sound c.in-Err.ensures.sound)
+
+pub returns-in_err-end-in-Ok-clause-sound_events : goal.returns-in_err-end-in-Ok-clause-sound_events
+returns-in_err-end-in-Ok-clause-sound_events g c d attached h k sound =
+    flow_adds_sound d attached h c.flow_over-end.new.self (Err c.in_err-end-in-Ok.field-0.0) (c.in_err-end-in-Ok.ensures.sound d attached h k) tt
+
+pub returns-in_ok-end-in-Ok-clause-sound_events : goal.returns-in_ok-end-in-Ok-clause-sound_events
+returns-in_ok-end-in-Ok-clause-sound_events g c d attached h k sound =
+    flow_adds_sound d attached h c.flow_over-end.new.self (Ok c.in_ok-end-in-Ok.field-0) (c.in_ok-end-in-Ok.ensures.sound d attached h k) (c.in_ok-end-in-Ok.ensures.wire.sound (c.in-Ok.ensures.sound sound)).1

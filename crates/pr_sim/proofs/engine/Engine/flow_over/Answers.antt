@@ -1,6 +1,8 @@
-use Rattle.std.proofs.Common.{◌++◌, ◌-◌, ◌≤◌, Ok, Err, reverse, subst, arith}
+use Rattle.std.proofs.Common.{rules, [], ◌++◌, ◌-◌, ◌≤◌, Ok, Err, reverse, sym, subst, arith}
 use Rattle.std.specs.Prelude.{ℕ, None}
 use Rattle.pr_flow.specs.declared.flow_end.FlowEnd.{FlowEnd}
+use Rattle.pr_flow.specs.Ending.{IsSoundEnd}
+use Rattle.pr_flow.specs.Sound.{AreSoundEvents}
 use Rattle.pr_story.specs.Scripts.{events_of}
 use Rattle.pr_sim.specs.Flowing.{IsBegun, LeadsTo, TurnsEnd}
 use Rattle.pr_sim.proofs.Flows.{grows_behind, same_streams, stays_attached, still_grown}
@@ -8,6 +10,7 @@ use Rattle.pr_sim.proofs.Turns.{at_an_end, begins_behind, ends_behind, leads_sti
 use Rattle.pr_sim.specs.Crossing.{Adds, Crosses}
 use Rattle.pr_sim.proofs.Carrying.{none_added}
 use Rattle.pr_sim.proofs.Crossing.{adds_behind, crosses_behind, crosses_done, crosses_on}
+use Rattle.pr_sim.proofs.Sound.{sound_behind}
 use Rattle.pr_sim.proofs.engine.Engine.flow_over.Goals as goal
 
 pub returns-in_err-end-clause-flowed : goal.returns-in_err-end-clause-flowed
@@ -22,6 +25,17 @@ returns-in_err-end-clause-flowed g c d attached h k =
     (λ es. (left : ℕ) → IsBegun s None _ (events_of es)) (λ es. IsBegun s None c.args.turns (events_of es)) (Err c.in_err-end.field-0.0)
     (λ end es is. ends_behind s c.args.turns l.left end (reverse first.0) es some first.2 is) (λ es is. begins_behind s c.args.turns l.left (reverse first.0) es some first.2 is)
     (c.in_err-end.ensures.flowed d attached (first.0 ++ h) first.1))
+
+pub loop-left-init : goal.loop-left-init
+loop-left-init g c = record {
+  kept = c.requires.kept;
+  stream = c.requires.stream;
+  attached = c.requires.attached;
+  grown = λ d attached h k. ([], k, λ rest are. are);
+  crosses = λ d attached h k. ([], k, search rules);
+  sounds = λ d attached h k. ([], k, tt);
+  wire = search rules;
+}
 
 pub returns-in_default : goal.returns-in_default
 returns-in_default g c =
@@ -42,6 +56,9 @@ returns-in_default g c =
           adds_behind d attached h first.0 c.flow_turn.new.self (λ end es. Crosses (w.state l.wire) (w.state c.flow_turn.new.wire) s None end (events_of es)) (λ end es. Crosses (w.state c.args.wire.now) (w.state c.flow_turn.new.wire) s None end (events_of es)) (Ok c.in_ok-end.end)
           (λ end es is. crosses_behind (w.state c.args.wire.now) (w.state l.wire) (w.state c.flow_turn.new.wire) s (reverse first.0) es end first.2 is) (c.in_ok-end.ensures.crossed d attached (first.0 ++ h) first.1);
       wire = wire_behind (w.state c.args.wire.now) (w.state l.wire) (w.state c.flow_turn.new.wire) c.in_ok-end.end l.invariant.wire c.in_ok-end.ensures.wire.0;
+      sound = λ d attached h k.
+          let first = l.invariant.sounds d attached h k in
+          sound_behind d attached h first.0 c.flow_turn.new.self (Ok c.in_ok-end.end) first.2 (c.in_ok-end.ensures.sound d attached (first.0 ++ h) first.1);
     }
 
 pub loop-left-preserved : goal.loop-left-preserved
@@ -68,6 +85,10 @@ loop-left-preserved g c =
           let more = adds_behind d attached h first.0 c.flow_turn.new.self (λ end es. Crosses (w.state l.wire) (w.state c.flow_turn.new.wire) s None end (events_of es)) (λ end es. Crosses (w.state c.args.wire.now) (w.state c.flow_turn.new.wire) s None end (events_of es)) (Ok c.in_ok-end.end)
           (λ end es is. crosses_behind (w.state c.args.wire.now) (w.state l.wire) (w.state c.flow_turn.new.wire) s (reverse first.0) es end first.2 is) (c.in_ok-end.ensures.crossed d attached (first.0 ++ h) first.1) in
           (more.0, more.1, crosses_on (w.state c.args.wire.now) (w.state c.flow_turn.new.wire) s c.in_ok-end.end (events_of (reverse more.0)) c.in-Done.is more.2);
+      sounds = λ d attached h r.
+          let first = l.invariant.sounds d attached h r in
+          let more = sound_behind d attached h first.0 c.flow_turn.new.self (Ok c.in_ok-end.end) first.2 (c.in_ok-end.ensures.sound d attached (first.0 ++ h) first.1) in
+          (more.0, more.1, more.2 (subst (λ (x : FlowEnd). IsSoundEnd (Ok x)) (sym c.in-Done.is) tt));
       wire = wire_goes_on (w.state c.args.wire.now) (w.state l.wire) (w.state c.flow_turn.new.wire) c.in_ok-end.end l.invariant.wire c.in_ok-end.ensures.wire.0 c.in_ok-end.ensures.wire.1 c.in-Done.is;
     }
 
@@ -88,3 +109,12 @@ returns-clause-crossed g c d attached h k =
     let l = c.loop-left in
     let first = l.invariant.crosses d attached h k in
     (first.0, first.1, crosses_done (w.state c.args.wire.now) (w.state l.wire) c.args.stream (events_of (reverse first.0)) first.2)
+
+pub returns-in_err-end-clause-sound : goal.returns-in_err-end-clause-sound
+returns-in_err-end-clause-sound g c d attached h k =
+    let first = c.loop-left.invariant.sounds d attached h k in
+    still_grown d attached h (λ (end : FlowEnd) es. IsSoundEnd (Ok end) → AreSoundEvents es) (λ (end : FlowEnd) es. IsSoundEnd (Ok end) → AreSoundEvents es) (λ es. AreSoundEvents es) c.flow_turn.new.self c.in_err-end.field-0.0 c.from_residual.result c.from_residual.ensures.1
+    (sound_behind d attached h first.0 c.flow_turn.new.self (Err c.in_err-end.field-0.0) first.2 (c.in_err-end.ensures.sound d attached (first.0 ++ h) first.1))
+
+pub returns-clause-sound : goal.returns-clause-sound
+returns-clause-sound g c d attached h k = let first = c.loop-left.invariant.sounds d attached h k in (first.0, first.1, λ ends. first.2)

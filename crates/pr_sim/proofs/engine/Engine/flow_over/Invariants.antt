@@ -2,6 +2,7 @@ use Rattle.std.specs.Prelude.{ℕ, List, ◌++◌, ◌<◌, Bool, None, length, 
 use Rattle.pr_story.specs.History.{NodeEntry}
 use Rattle.pr_story.specs.Scripts.{events_of}
 use Rattle.pr_flow.specs.Flows.{crossed}
+use Rattle.pr_flow.specs.Sound.{AreSoundEvents}
 use Rattle.pr_wires.specs.Calls.{Grows}
 use Rattle.pr_sim.specs.Flowing.{LeadsTo, WireGoesOn}
 use Rattle.pr_sim.specs.Running.{HasAttached, IsKept, IsRunning}
@@ -19,6 +20,8 @@ invariant-loop-left g l =
           → (new : List NodeEntry) × IsRunning d attached (new ++ h) l.self × LeadsTo l.stream None l.turns l.left (events_of (reverse new));
       crosses : (d : Declared) (attached : ℕ → Bool) (h : List NodeEntry) → IsRunning d attached h l.initial.self
           → (new : List NodeEntry) × IsRunning d attached (new ++ h) l.self × Grows (w.state l.initial.wire).taken (w.state l.wire).taken (crossed (events_of (reverse new)));
+      sounds : (d : Declared) (attached : ℕ → Bool) (h : List NodeEntry) → IsRunning d attached h l.initial.self
+          → (new : List NodeEntry) × IsRunning d attached (new ++ h) l.self × AreSoundEvents (reverse new);
       wire : WireGoesOn (w.state l.initial.wire) (w.state l.wire);
     }
 

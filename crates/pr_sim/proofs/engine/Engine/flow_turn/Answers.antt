@@ -1,5 +1,8 @@
-use Rattle.std.proofs.Common.{[], ◌∷◌, ◌+◌, arith}
+use Rattle.std.proofs.Common.{[], ◌∷◌, ◌+◌, Ok, arith}
 use Rattle.std.specs.Prelude.{None, Some}
+use Rattle.pr_flow.specs.declared.flow_end.FlowEnd.{FlowEnd}
+use Rattle.pr_flow.specs.Ending.{IsSoundEnd}
+use Rattle.pr_flow.specs.Sound.{AreSoundEvents}
 use Rattle.pr_story.specs.Scripts.{events_of}
 use Rattle.pr_sim.specs.Flowing.{IsBegun, TurnsEnd}
 use Rattle.pr_sim.proofs.Faults.{this_cause}
@@ -7,6 +10,7 @@ use Rattle.pr_sim.proofs.Flows.{grows_behind, idle_leads, is_attached, none_begu
 use Rattle.pr_sim.specs.Crossing.{Adds, Crosses}
 use Rattle.pr_sim.proofs.Carrying.{none_added}
 use Rattle.pr_sim.proofs.Crossing.{adds_behind, idle_crosses, sent_crosses, stale_crosses}
+use Rattle.pr_sim.proofs.Sound.{sound_behind, turn_sound}
 use Rattle.pr_sim.proofs.engine.Engine.flow_turn.Goals as goal
 
 pub returns-in_err-turn-clause-flowed : goal.returns-in_err-turn-clause-flowed
@@ -86,3 +90,27 @@ returns-in-Sent-clause-crossed g c d attached h k =
     let way = on_the_way s m made.0 h turned (is_attached d attached h c.args.self.now s k c.requires.stream c.requires.attached) in
     adds_behind d attached h (made.0 ∷ []) c.cross.new.self (λ end es. Crosses a b s (Some m) end (events_of es)) (λ end es. Crosses a b s None end (events_of es)) c.cross.result
     (λ end es is. sent_crosses a b s m made.0 end (events_of es) turned.0 is) (c.cross.ensures.crossed d attached (made.0 ∷ h) made.1 way)
+
+pub returns-in_err-turn-clause-sound : goal.returns-in_err-turn-clause-sound
+returns-in_err-turn-clause-sound g c d attached h k =
+    let was = c.in_err-turn.ensures d attached h k in
+    not_grown d attached h (λ (end : FlowEnd) es. IsSoundEnd (Ok end) → AreSoundEvents es) (λ es. AreSoundEvents es) c.turn.new.self _ c.from_residual.result c.from_residual.ensures.1 (λ fault is. this_cause h c.in_err-turn.field-0.0 fault was.1 is) was.0 tt
+
+pub returns-in-Idle-clause-sound : goal.returns-in-Idle-clause-sound
+returns-in-Idle-clause-sound g c d attached h k =
+    let made = c.in_ok-turn.ensures d attached h k in
+    (made.0 ∷ [], made.1, λ ends. (turn_sound c.args.stream c.in_ok-turn.field-0 made.0 made.2.0, tt))
+
+pub returns-in-Stale-clause-sound : goal.returns-in-Stale-clause-sound
+returns-in-Stale-clause-sound g c d attached h k =
+    let made = c.in_ok-turn.ensures d attached h k in
+    (made.0 ∷ [], made.1, λ ends. (turn_sound c.args.stream c.in_ok-turn.field-0 made.0 made.2.0, tt))
+
+pub returns-in-Sent-clause-sound : goal.returns-in-Sent-clause-sound
+returns-in-Sent-clause-sound g c d attached h k =
+    let made = c.in_ok-turn.ensures d attached h k in
+    let m = c.in-Sent.msg in
+    let s = c.args.stream in
+    let turned = sent_step s c.in_ok-turn.field-0 m made.0 c.in-Sent.is made.2 in
+    let way = on_the_way s m made.0 h turned (is_attached d attached h c.args.self.now s k c.requires.stream c.requires.attached) in
+    sound_behind d attached h (made.0 ∷ []) c.cross.new.self c.cross.result (turn_sound s c.in_ok-turn.field-0 made.0 made.2.0, tt) (c.cross.ensures.sound d attached (made.0 ∷ h) made.1 way)

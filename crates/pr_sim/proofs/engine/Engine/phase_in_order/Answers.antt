@@ -1,5 +1,5 @@
-use Rattle.std.proofs.Common.{◌≡◌, ◌<◌, ◌≤◌, ◌+◌, List, [], ◌++◌, Result, Ok, refl, sym, ◌∙◌, ap, subst, length, get_or, take, drop, arith}
-use Rattle.std.specs.Prelude.{map, reverse}
+use Rattle.std.proofs.Common.{◌≡◌, ℕ, ◌<◌, ◌≤◌, ◌+◌, List, [], ◌++◌, Result, Ok, refl, sym, ◌∙◌, ap, subst, length, get_or, take, drop, arith}
+use Rattle.std.specs.Prelude.{Bool, IsTrue, map, reverse}
 use Rattle.std.proofs.lemmas.List.{take_all}
 use Rattle.std.proofs.lemmas.Result.{err_from_is_err_and}
 use Rattle.pr_flow.specs.declared.stop.Stop.{Stop}
@@ -18,6 +18,7 @@ use Rattle.pr_sim.proofs.JobParts.{ends_at_once, ends_there, ends_whole, goes_on
 use Rattle.pr_sim.proofs.JobsInOrder.{lines_can}
 use Rattle.pr_sim.specs.Crossing.{JobAdds, JobsCarry}
 use Rattle.pr_sim.proofs.Carrying.{other_stop, phase_more, phase_none}
+use Rattle.pr_sim.proofs.Sound.{adds_more, nothing_added, same_added}
 use Rattle.pr_sim.proofs.engine.Engine.phase_in_order.Goals as goal
 
 pub returns-in_err-owners-clause-steps : goal.returns-in_err-owners-clause-steps
@@ -32,6 +33,7 @@ loop-owner-init g c = record {
   can = owners_can c.args.self.now c.args.inside.now c.requires.can.lines;
   given = λ d attached h k. ([], k, refl);
   carried = λ d attached h k. ([], k, (refl, refl));
+  sounds = λ all d attached h k. nothing_added d attached h c.args.self.now k;
   wires = wires_same g.W.Wires.faults g.W.Wires.made g.W.Wires.out g.W.Wires.sound c.args.wires.now;
 }
 
@@ -70,6 +72,7 @@ returns-in_default g c =
       carried = λ d attached h k. other_stop d attached h c.job.new.self (g.W.Wires.carried c.args.wires.now) (g.W.Wires.carried c.job.new.wires) (jobs_of inside) c.in_ok-stop.stop c.in_default.not-Went;
       wires = wires_stop g.W.Wires.faults g.W.Wires.made g.W.Wires.out g.W.Wires.sound i c.args.wires.now c.loop-owner.wires c.job.new.wires (Ok c.in_ok-stop.stop) (Ok c.in_ok-stop.stop) refl l.wires
           (let most = c.requires.can.jobs in omega (arith, most, lt)) c.in_ok-stop.ensures.wires;
+      sound_events = λ d attached h k all. let first = l.given d attached h k in adds_more d h first.0 c.job.new.self (same_added d attached h first.0 c.loop-owner.self first.1 (l.sounds all d attached h k)) (c.job.ensures.sound_events d attached (first.0 ++ h) first.1 (subst (λ (sound : ℕ → Bool). IsTrue (sound (g.W.Wires.made c.loop-owner.wires + 1))) (sym l.wires.same_sound) (all (g.W.Wires.made c.loop-owner.wires + 1))));
     }
 
 pub loop-owner-preserved : goal.loop-owner-preserved
@@ -98,6 +101,7 @@ loop-owner-preserved g c =
           let on = phase_more d attached h first.0 c.job.new.self (map (job_of inside) (take i os)) (job_of inside o) (carried c.args.wires.now) (carried c.loop-owner.wires) (carried c.job.new.wires) first.2
           (subst (λ (x : Stop). JobAdds (job_of inside o) (carried c.loop-owner.wires) (carried c.job.new.wires) d attached (first.0 ++ h) c.job.new.self (Ok x)) c.in-Went.is (c.in_ok-stop.ensures.carried d attached (first.0 ++ h) first.1)) in
           (on.0, on.1, subst (λ (js : List Job). JobsCarry js (reverse on.0) (carried c.args.wires.now) (carried c.job.new.wires)) (sym (map_more (job_of inside) os i o (owner.Client 0) lt is)) on.2);
+      sounds = λ all d attached h r. let first = l.given d attached h r in adds_more d h first.0 c.job.new.self (same_added d attached h first.0 c.loop-owner.self first.1 (l.sounds all d attached h r)) (c.job.ensures.sound_events d attached (first.0 ++ h) first.1 (subst (λ (sound : ℕ → Bool). IsTrue (sound (g.W.Wires.made c.loop-owner.wires + 1))) (sym l.wires.same_sound) (all (g.W.Wires.made c.loop-owner.wires + 1))));
       wires = wires_more g.W.Wires.faults g.W.Wires.made g.W.Wires.out g.W.Wires.sound i c.args.wires.now c.loop-owner.wires c.job.new.wires (Ok c.in_ok-stop.stop) l.wires c.in_ok-stop.ensures.wires;
     }
 
@@ -121,3 +125,14 @@ returns-clause-carried g c d attached h k =
     let past = subst (λ (os : List Owner). length os ≤ c.loop-owner.owner-index) (c.as_slice-owner-items.ensures ∙ c.in_ok-owners.ensures) c.loop-owner-test.false in
     subst (λ (os : List Owner). (new : List NodeEntry) × IsRunning d attached (new ++ h) c.loop-owner.self × JobsCarry (map (job_of c.args.inside.now) os) (reverse new) (g.W.Wires.carried c.args.wires.now) (g.W.Wires.carried c.loop-owner.wires))
     (take_all c.loop-owner.owner-index (owners_of c.args.inside.now) past) (c.loop-owner.invariant.carried d attached h k)
+
+pub returns-in_err-owners-clause-sound_events : goal.returns-in_err-owners-clause-sound_events
+returns-in_err-owners-clause-sound_events g c d attached h k all = nothing_added d attached h c.args.self.now k
+
+pub returns-in_err-stop-clause-sound_events : goal.returns-in_err-stop-clause-sound_events
+returns-in_err-stop-clause-sound_events g c d attached h k all =
+    let l = c.loop-owner.invariant in
+    let first = l.given d attached h k in adds_more d h first.0 c.job.new.self (same_added d attached h first.0 c.loop-owner.self first.1 (l.sounds all d attached h k)) (c.job.ensures.sound_events d attached (first.0 ++ h) first.1 (subst (λ (sound : ℕ → Bool). IsTrue (sound (g.W.Wires.made c.loop-owner.wires + 1))) (sym l.wires.same_sound) (all (g.W.Wires.made c.loop-owner.wires + 1))))
+
+pub returns-clause-sound_events : goal.returns-clause-sound_events
+returns-clause-sound_events g c d attached h k all = c.loop-owner.invariant.sounds all d attached h k

@@ -1,4 +1,4 @@
-use Rattle.std.specs.Prelude.{ℕ, List, ◌++◌, Bool, map, reverse, take}
+use Rattle.std.specs.Prelude.{ℕ, List, ◌++◌, Bool, IsTrue, map, reverse, take}
 use Rattle.std.specs.List.{AllByRecursion}
 use Rattle.pr_script.specs.Steps.{owners_of}
 use Rattle.pr_story.specs.History.{NodeEntry}
@@ -8,6 +8,7 @@ use Rattle.pr_text.specs.Steps.{job_of}
 use Rattle.pr_sim.specs.Crossing.{JobsCarry}
 use Rattle.pr_sim.specs.Phasing.{CanDo, IsJobLine}
 use Rattle.pr_sim.specs.Running.{IsKept, IsRunning}
+use Rattle.pr_sim.specs.Sound.{AddsSound}
 use Rattle.pr_story.specs.Counts.{Declared}
 use Rattle.pr_sim.proofs.JobParts.{WiresSoFar}
 use Rattle.pr_sim.proofs.engine.Engine.phase_in_order.Given as goal
@@ -21,5 +22,6 @@ invariant-loop-owner g l = record {
       → (new : List NodeEntry) × IsRunning d attached (new ++ h) l.self × AreOfJobs JobGives (map (job_of l.inside) (take l.owner-index (owners_of l.inside))) (reverse new);
   carried : (d : Declared) (attached : ℕ → Bool) (h : List NodeEntry) → IsRunning d attached h l.initial.self
       → (new : List NodeEntry) × IsRunning d attached (new ++ h) l.self × JobsCarry (map (job_of l.inside) (take l.owner-index (owners_of l.inside))) (reverse new) (g.W.Wires.carried l.initial.wires) (g.W.Wires.carried l.wires);
+  sounds : ((k : ℕ) → IsTrue (g.W.Wires.sound l.initial.wires k)) → (d : Declared) (attached : ℕ → Bool) (h : List NodeEntry) → IsRunning d attached h l.initial.self → AddsSound d h l.self;
   wires : WiresSoFar g.W.Wires.faults g.W.Wires.made g.W.Wires.out g.W.Wires.sound l.owner-index l.initial.wires l.wires;
 }

@@ -4,6 +4,7 @@ use Rattle.pr_story.specs.Scripts.{Flow, Settle}
 use Rattle.pr_text.specs.Steps.{line_of}
 use Rattle.pr_sim.proofs.Stops.{ends_step, flow_step, no_wires, said_step}
 use Rattle.pr_sim.proofs.Carrying.{flow_carries, none_said, settle_said}
+use Rattle.pr_sim.proofs.SoundLines.{line_adds, short_adds}
 use Rattle.pr_sim.proofs.engine.Engine.step.Goals as goal
 
 pub returns-in-Flow-clause-steps : goal.returns-in-Flow-clause-steps
@@ -21,6 +22,7 @@ returns-in_default g c = record {
   steps = λ d attached h k. ends_step d attached h c.run.new.self (line_of c.args.command.now) c.run.result c.went-in_default.result c.went-in_default.ensures (c.run.ensures d attached h k);
   carried = λ d attached h k. none_said d attached h c.run.new.self c.args.command.now (g.W.Wires.carried c.args.wires.now) c.went-in_default.result (search rules);
   wires = no_wires g.W.Wires.faults g.W.Wires.made g.W.Wires.out g.W.Wires.sound c.args.wires.now c.run.result c.went-in_default.result c.went-in_default.ensures;
+  sound_events = λ d attached h k sound. short_adds d attached h c.run.new.self c.args.command.now c.run.result (search rules) (c.run.ensures d attached h k);
 }
 
 pub returns-in-Flow-clause-carried : goal.returns-in-Flow-clause-carried
@@ -30,3 +32,9 @@ returns-in-Flow-clause-carried g c d attached h k =
 
 pub returns-in-Settle-clause-carried : goal.returns-in-Settle-clause-carried
 returns-in-Settle-clause-carried g c d attached h k = settle_said d attached h c.settle.new.self c.args.command.now (g.W.Wires.carried c.args.wires.now) c.went.result c.in-Settle.is
+
+pub returns-in-Flow-clause-sound_events : goal.returns-in-Flow-clause-sound_events
+returns-in-Flow-clause-sound_events g c d attached h k sound = c.flow.ensures.sound_events d attached h k sound
+
+pub returns-in-Settle-clause-sound_events : goal.returns-in-Settle-clause-sound_events
+returns-in-Settle-clause-sound_events g c d attached h k sound = line_adds d attached h c.settle.new.self Settle c.settle.result tt (c.settle.ensures.ends d attached h k)
