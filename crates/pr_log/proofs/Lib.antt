@@ -10,3 +10,5 @@ pub mod Lit
 pub mod Omitted
 pub mod Logs
 pub mod Counts
+pub mod LastWrites
+pub mod Past

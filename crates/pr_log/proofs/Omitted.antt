@@ -21,7 +21,7 @@ true_false e = cc
 
 -- ---- one write more of a node
 
-named : (was same held : Bool) → (was || (same && not held)) ≡ true → was ≡ false → (same ≡ true) × (held ≡ false)
+pub named : (was same held : Bool) → (was || (same && not held)) ≡ true → was ≡ false → (same ≡ true) × (held ≡ false)
 named true same held e n = cc
 named false true true e n = cc
 named false true false e n = (refl, refl)
@@ -35,7 +35,7 @@ point_is : (p q : Point) → p.clock ≡ q.clock → p.node ≡ q.node → p ≡
 point_is p q clock node = ap (λ k. record { clock = k; node = p.node }) clock ∙ ap (λ k. record { clock = q.clock; node = k }) node
 
 -- two known writes of a node with one clock are one
-same_write : (rows : List (List (ℕ × WriteRec))) (n : ℕ) (w x : WriteRec) → Has rows w → Has rows x → w.stamp.node ≡ n → x.stamp.node ≡ n → w.stamp.clock ≡ x.stamp.clock → w ≡ x
+pub same_write : (rows : List (List (ℕ × WriteRec))) (n : ℕ) (w x : WriteRec) → Has rows w → Has rows x → w.stamp.node ≡ n → x.stamp.node ≡ n → w.stamp.clock ≡ x.stamp.clock → w ≡ x
 same_write rows n w x has_w has_x node_w node_x clock = same_some w x (sym has_w ∙ ap (write_at rows) (point_is w.stamp x.stamp clock (node_w ∙ sym node_x)) ∙ has_x)
 
 pub omit_more : (rows : List (List (ℕ × WriteRec))) (sub : List Span) (n from clock next : ℕ) (w : WriteRec) (o : List ℕ) (now was old : Bool) → next ≡ w.stamp.clock → from ≤ clock → IsFirstAbove rows n clock (Some w) → now ≡ (was || (bytes_eq w.name o && not (has sub w.name))) → IsTrue was ↔ (IsTrue old ⊎ IsOmittedOf rows sub n from clock o) → IsTrue now ↔ (IsTrue old ⊎ IsOmittedOf rows sub n from next o)

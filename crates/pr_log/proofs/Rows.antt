@@ -21,6 +21,11 @@ had row write clock is some c = kept (nat_eq write.stamp.clock c) (at_clock row 
         none e = cc
     kept false x h = refl
 
+-- a test that failed
+pub none_by_test : (x : Option WriteRec) (b : Bool) → b ≡ is_some x → b ≡ false → x ≡ None
+none_by_test None b is e = refl
+none_by_test (Some w) b is e = cc
+
 -- a clock that has none takes the write
 pub put : (a b : List (ℕ × WriteRec)) (write : WriteRec) (clock : ℕ) → clock ≡ write.stamp.clock → ((c : ℕ) → at_clock b c ≡ cond (is_eq (nat_cmp clock c)) (Some write) (at_clock a c)) → is_some (at_clock a clock) ≡ false → IsAddedAt a b write
 put a b write clock is in_ none c = in_ c ∙ ap (λ t. cond t (Some write) (at_clock a c)) (eq_nat clock c) ∙ ap (λ k. cond (nat_eq k c) (Some write) (at_clock a c)) is

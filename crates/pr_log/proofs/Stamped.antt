@@ -11,13 +11,13 @@ use Rattle.pr_log.proofs.Clocks.{less_or, same_some, some_none, is_some}
 use Rattle.pr_log.proofs.Places.{past_end, this_or_other}
 
 -- what stands at a point of this node
-at_row : (rows : List (List (ℕ × WriteRec))) (n c : ℕ) (x : WriteRec) → IsByStamp rows → at_clock (row_of rows n) c ≡ Some x → (x.stamp ≡ record { clock = c; node = n }) × IsStamp (record { clock = c; node = n })
+pub at_row : (rows : List (List (ℕ × WriteRec))) (n c : ℕ) (x : WriteRec) → IsByStamp rows → at_clock (row_of rows n) c ≡ Some x → (x.stamp ≡ record { clock = c; node = n }) × IsStamp (record { clock = c; node = n })
 at_row rows n c x by_stamp is = by_stamp (record { clock = c; node = n }) x is
 
-at_row_has : (rows : List (List (ℕ × WriteRec))) (n c : ℕ) (x : WriteRec) → IsByStamp rows → at_clock (row_of rows n) c ≡ Some x → Has rows x
+pub at_row_has : (rows : List (List (ℕ × WriteRec))) (n c : ℕ) (x : WriteRec) → IsByStamp rows → at_clock (row_of rows n) c ≡ Some x → Has rows x
 at_row_has rows n c x by_stamp is = subst (λ p. write_at rows p ≡ Some x) (sym (at_row rows n c x by_stamp is).0) is
 
-has_at : (rows : List (List (ℕ × WriteRec))) (n : ℕ) (x : WriteRec) → Has rows x → x.stamp.node ≡ n → at_clock (row_of rows n) x.stamp.clock ≡ Some x
+pub has_at : (rows : List (List (ℕ × WriteRec))) (n : ℕ) (x : WriteRec) → Has rows x → x.stamp.node ≡ n → at_clock (row_of rows n) x.stamp.clock ≡ Some x
 has_at rows n x has here = subst (λ k. at_clock (row_of rows k) x.stamp.clock ≡ Some x) here has
 
 -- the first of a row is the first of its node

@@ -1,12 +1,13 @@
 //! The known writes of a log.
-ghost use Rattle.pr_log.specs.Known.{Has, IsAdded, IsByStamp, IsFirstAbove, IsForgotten, IsForgottenUpTo, IsOmittedBetween, IsOmittedOf, uncovered};
+ghost use Rattle.pr_log.specs.Known.{Has, IsAdded, IsByStamp, IsFirstAbove, IsForgotten, IsForgottenUpTo, IsOmittedBetween, IsOmittedOf, IsWaiting, uncovered};
+ghost use Rattle.pr_log.specs.Latest.{IsNextLatestOf};
 ghost use Rattle.pr_log.specs.Sets.{is_in_any};
 ghost use Rattle.pr_names.specs.Name.{IsName};
 ghost use Rattle.pr_sets.specs.Spans.{IsSetOf, has};
 ghost use Rattle.std.specs.Str.{bytes_eq};
 ghost use Rattle.pr_inval.specs.declared.write_rec.WriteRec.{WriteRec};
 ghost use Rattle.pr_vectors.specs.Vector.{clock_of};
-ghost use Rattle.std.specs.Prelude.{◌≡◌, ◌≤◌, ◌<◌, ◌+◌, ◌⊎◌, ◌↔◌, ◌||◌, ◌&&◌, ℕ, List, [], not, length, slice_index_or, IfNone, IfOk, IfSome, IsTrue, OnErr, OnOk, Some};
+ghost use Rattle.std.specs.Prelude.{◌≡◌, ◌≤◌, ◌<◌, ◌+◌, ◌⊎◌, ◌↔◌, ◌||◌, ◌&&◌, ℕ, List, [], not, length, slice_index_or, IfNone, IfOk, IfSome, IsTrue, OnErr, OnOk, Some, false};
 
 use crate::Steps;
 use crate::collector::Collector;
@@ -78,7 +79,7 @@ impl Index {
     }
 
     // The names of known writes between the vectors that are none of these, in time logarithmic in the writes of a
-    // node, for each write between.
+    // node, for each write between, and of a node that wrote nothing past the end for each name between.
     pub(crate) fn omitted(
         &self,
         alloc: Global,
@@ -108,12 +109,89 @@ impl Index {
         requires { writer < 32 }
         ensures { OnOk result ((o : List ℕ) → IsName o → IsTrue (is_in_any names.new o) ↔ (IsTrue (is_in_any names.old o) ⊎ IsOmittedOf self.now sub.now writer from to o)) }
     {
+        if self.is_up_to(writer, to) {
+            return self.omit_past(writer, from, to, sub, names);
+        }
+        self.omit_each(writer, from, to, sub, names)
+    }
+
+    // The same where no write is past the end, by the latest write to each name.
+    fn omit_past(
+        &self,
+        writer: u32,
+        from: u64,
+        to: u64,
+        sub: &NameSet,
+        names: &mut Collector,
+    ) -> Result<(), NoMemory>
+        requires writer { writer < 32 }
+        requires end { (x : WriteRec) → Has self.now x → x.stamp.node ≡ writer → x.stamp.clock ≤ to }
+        ensures { OnOk result ((o : List ℕ) → IsName o → IsTrue (is_in_any names.new o) ↔ (IsTrue (is_in_any names.old o) ⊎ IsOmittedOf self.now sub.now writer from to o)) }
+    {
+        let mut clock = from;
+        while let Some(write) = self.latest_above(writer, clock) {
+            add_outside(names, sub, &write.name)?;
+            clock = write.stamp.clock();
+        }
+        Ok(())
+    }
+
+    // The same, by each write.
+    fn omit_each(
+        &self,
+        writer: u32,
+        from: u64,
+        to: u64,
+        sub: &NameSet,
+        names: &mut Collector,
+    ) -> Result<(), NoMemory>
+        requires { writer < 32 }
+        ensures { OnOk result ((o : List ℕ) → IsName o → IsTrue (is_in_any names.new o) ↔ (IsTrue (is_in_any names.old o) ⊎ IsOmittedOf self.now sub.now writer from to o)) }
+    {
         let mut clock = from;
         while let Some(write) = self.first_between(writer, clock, to) {
             add_outside(names, sub, &write.name)?;
             clock = write.stamp.clock();
         }
         Ok(())
+    }
+
+    // Whether a known write to one of the names lies past the position, in time logarithmic in a node's names, for each
+    // name that was written there.
+    pub(crate) fn waits(&self, pos: &Vector, sub: &NameSet) -> bool
+        ensures { result ≡ false → (x : WriteRec) → ¬ IsWaiting self.now pos.now sub.now x }
+    {
+        self.by_stamp();
+        for n in 0..NODES {
+            if self.wrote_past(n, pos.at(n), sub) {
+                return true;
+            }
+        }
+        false
+    }
+
+    // Whether the node wrote to one of the names above the clock.
+    fn wrote_past(&self, writer: u32, from: u64, sub: &NameSet) -> bool
+        requires { writer < 32 }
+        ensures { result ≡ false → (x : WriteRec) → Has self.now x → x.stamp.node ≡ writer → from < x.stamp.clock → has sub.now x.name ≡ false }
+    {
+        let mut clock = from;
+        while let Some(write) = self.latest_above(writer, clock) {
+            if sub.has(&write.name) {
+                return true;
+            }
+            clock = write.stamp.clock();
+        }
+        false
+    }
+
+    // How many names the nodes wrote to, each node's counted apart.
+    pub(crate) fn names(&self) -> usize {
+        let mut names = 0usize;
+        for row in &self.rows {
+            names = names.saturating_add(row.names());
+        }
+        names
     }
 
     // The node's first known write above one clock, if it is not above another.
@@ -126,6 +204,23 @@ impl Index {
             Some(write) => up_to(write, to),
             None => None,
         }
+    }
+
+    // A known write of the node above the clock such that each name to which it wrote above the clock was written there
+    // or later.
+    fn latest_above(&self, writer: u32, clock: u64) -> Option<WriteRec>
+        requires { writer < 32 }
+        ensures { IsNextLatestOf self.now writer clock result }
+    {
+        self.rows[writer as usize].latest_above(clock)
+    }
+
+    // Whether no known write of the node is past the clock.
+    fn is_up_to(&self, writer: u32, clock: u64) -> bool
+        requires { writer < 32 }
+        ensures { IsTrue result → (x : WriteRec) → Has self.now x → x.stamp.node ≡ writer → x.stamp.clock ≤ clock }
+    {
+        self.rows[writer as usize].is_up_to(clock)
     }
 
     // Each known write is kept under its stamp.

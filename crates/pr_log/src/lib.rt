@@ -4,6 +4,7 @@
 mod collector;
 mod dark;
 pub mod index;
+mod latest;
 mod log;
 mod segments;
 mod steps;

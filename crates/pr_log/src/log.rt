@@ -161,7 +161,8 @@ impl Log {
     }
 
     /// The least known write by stamp to one of the names whose point the position does not cover; None exactly where
-    /// there is none. It takes the time of `next_write_counted`, and no memory.
+    /// there is none. It takes the time of `next_write_counted` twice at most, and where there is none that of two steps
+    /// for each name that a node wrote to. It takes no memory.
     pub fn next_write(&self, pos: &Vector, sub: &NameSet) -> Option<WriteRec>
         ensures { IsNextOf self.now.known pos.now sub.now result }
     {
@@ -179,7 +180,7 @@ impl Log {
         ensures next { IsNextOf self.now.known pos.now sub.now result }
         ensures few { steps.new ≤ steps.old + uncovered self.now.known pos.now + 32 }
     {
-        waiting::next_write(&self.known, pos, sub, steps)
+        waiting::next_write(&self.known, pos, sub, 0, steps)
     }
 
     /// The names that are dark at a point between the vectors. For each node it takes time logarithmic in the dark sets
@@ -193,7 +194,7 @@ impl Log {
     }
 
     /// The names outside the subscription of known writes at points between the vectors, in time logarithmic in the
-    /// node's known writes, for each write between.
+    /// node's known writes, for each write between; where none of the writer's lies past the end, for each name between.
     pub fn omitted_between(
         &self,
         from: &Vector,
@@ -221,7 +222,7 @@ fn uncounted<L: Ledger>(
     ensures { IsNextOf index.now pos.now sub.now result }
 {
     let mut steps = Steps::<L>::new(blank);
-    waiting::next_write(index, pos, sub, &mut steps)
+    waiting::next_write(index, pos, sub, index.names(), &mut steps)
 }
 
 // Keeps the write, if the cut does not cover it and it is the first with its stamp.

@@ -1,9 +1,9 @@
 // The next write of a stream.
 ghost use Rattle.pr_inval.specs.declared.write_rec.WriteRec.{WriteRec};
-ghost use Rattle.pr_log.specs.Known.{IsFirstAbove, uncovered};
+ghost use Rattle.pr_log.specs.Known.{IsFirstAbove, IsWaiting, uncovered};
 ghost use Rattle.pr_log.specs.Waiting.{IsLeastHead, IsLesser, IsNextOf, head_of};
 ghost use Rattle.pr_vectors.specs.Vector.{clock_of};
-ghost use Rattle.std.specs.Prelude.{◌≡◌, ◌≤◌, ◌<◌, ◌+◌, ℕ};
+ghost use Rattle.std.specs.Prelude.{◌≡◌, ◌≤◌, ◌<◌, ◌+◌, ℕ, IsTrue};
 
 use crate::Steps;
 use crate::index::Index;
@@ -17,11 +17,13 @@ use std::sync::ledger::Ledger;
 type Heads = [Option<WriteRec>; 32];
 
 // The least write by stamp that is to one of the names and past the position. The nodes' writes are looked at in the
-// order of stamps, so that a write is looked at only if it comes before the answer or is the first of its node.
+// order of stamps, so that a write is looked at only if it comes before the answer or is the first of its node. After
+// so many looks at writes to other names it is asked once whether a write waits at all; 0 is never.
 pub fn next_write<L: Ledger>(
     index: &Index,
     pos: &Vector,
     sub: &NameSet,
+    looks: usize,
     steps: &mut Steps<L>,
 ) -> Option<WriteRec>
     ensures next { IsNextOf index.now pos.now sub.now result }
@@ -29,14 +31,26 @@ pub fn next_write<L: Ledger>(
 {
     index.by_stamp();
     let mut heads = heads(index, pos, steps);
+    let mut looks = looks;
     while let Some(write) = least(&heads) {
         if sub.has(&write.name) {
             return Some(write);
         }
+        if is_none_left(index, pos, sub, looks) {
+            return None;
+        }
+        looks = looks.saturating_sub(1);
         let node = write.stamp.node();
         heads[node as usize] = index.next(node, write.stamp.clock(), steps);
     }
     None
+}
+
+// Whether the last of the looks was made, and no write waits.
+fn is_none_left(index: &Index, pos: &Vector, sub: &NameSet, looks: usize) -> bool
+    ensures { IsTrue result → (x : WriteRec) → ¬ IsWaiting index.now pos.now sub.now x }
+{
+    looks == 1 && !index.waits(pos, sub)
 }
 
 // The first writes past the position.

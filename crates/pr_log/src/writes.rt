@@ -1,10 +1,12 @@
 // The known writes of one node.
-ghost use Rattle.pr_log.specs.Known.{IsAddedAt, IsFirstIn, IsForgottenUpTo, at_clock, count_above};
-ghost use Rattle.std.specs.BTreeMap.Range.{IsLeBy, IsLtBy};
+ghost use Rattle.pr_log.specs.Known.{IsAddedAt, IsFirstIn, IsForgottenUpTo, IsUpTo, at_clock, count_above};
+ghost use Rattle.pr_log.specs.Latest.{IsNextLatest};
+ghost use Rattle.std.specs.BTreeMap.Range.{IsLeBy};
 ghost use Rattle.std.specs.Ordering.{nat_cmp};
-ghost use Rattle.std.specs.Prelude.{◌≡◌, ◌≤◌, ◌<◌, ◌+◌, ℕ, [], IfNone, IfSome, IsSome, OnErr, OnOk, None, is_some};
+ghost use Rattle.std.specs.Prelude.{◌≡◌, ◌≤◌, ◌<◌, ◌+◌, ℕ, [], IfNone, IfSome, IsSome, IsTrue, OnErr, OnOk, None, is_some};
 ghost use Rattle.pr_stamps.specs.Point.{IsStamp};
 
+use crate::latest::{Latest, first_above};
 use pr_inval::WriteRec;
 use pr_stamps::NoMemory;
 use std::alloc::Global;
@@ -12,10 +14,11 @@ use std::collections::BTreeMap;
 use std::marker::Model;
 use std::ops::Bound;
 
-// Writes by their clocks, and a clock that none of them is past.
+// Writes by their clocks, the latest one to each name, and a clock that none of them is past.
 #[derive(Drop)]
 pub struct Writes {
     by_clock: BTreeMap<u64, WriteRec>,
+    latest: Latest,
     last: u64,
 }
 
@@ -23,12 +26,13 @@ impl Model for Writes {
     ghost use Rattle.std.specs.Prelude.{List, ℕ};
     ghost use Rattle.pr_inval.specs.declared.write_rec.WriteRec.{WriteRec};
     ghost use Rattle.pr_log.specs.Known.{IsUpTo};
+    ghost use Rattle.pr_log.specs.Latest.{AreLatest};
 
     ghost Value = { List (ℕ × WriteRec) };
 
     ghost view = { λ w. w.by_clock.entries };
 
-    ghost invariant = { λ w. IsUpTo w.last w.by_clock.entries };
+    ghost invariant = { λ w. IsUpTo w.last w.by_clock.entries × AreLatest w.by_clock.entries w.latest };
 }
 
 impl Writes {
@@ -37,11 +41,13 @@ impl Writes {
     {
         Writes {
             by_clock: BTreeMap::new(alloc),
+            latest: Latest::new(alloc),
             last: 0,
         }
     }
 
-    // Keeps the write, if none has its clock. It takes logarithmic time, and one look-up less past the last clock.
+    // Keeps the write, if none has its clock. It takes time logarithmic in the writes and in their names, and one
+    // look-up less past the last clock.
     pub fn add(&mut self, write: &WriteRec) -> Result<(), NoMemory>
         ensures ok { OnOk result (IsAddedAt self.old self.new write.now) }
         ensures few { OnOk result ((c : ℕ) → count_above self.new c ≤ count_above self.old c + 1) }
@@ -53,8 +59,16 @@ impl Writes {
             return Ok(());
         }
         self.by_clock.insert(clock, *write)?;
-        self.last = self.last.max(clock);
-        Ok(())
+        match self.latest.put(write) {
+            Ok(()) => {
+                self.last = self.last.max(clock);
+                Ok(())
+            }
+            Err(error) => {
+                self.by_clock.remove(&clock);
+                Err(error)
+            }
+        }
     }
 
     // Whether a write has this clock.
@@ -80,29 +94,44 @@ impl Writes {
         }
     }
 
+    // A write above the clock such that each name that was written above the clock was written there or later, in
+    // logarithmic time: the first of the latest writes to each name.
+    pub fn latest_above(&self, clock: u64) -> Option<WriteRec>
+        ensures { IsNextLatest self.now clock result }
+    {
+        if self.last <= clock {
+            return None;
+        }
+        self.latest.first_above(clock)
+    }
+
+    // Whether no write is known to be past the clock.
+    pub fn is_up_to(&self, clock: u64) -> bool
+        ensures { IsTrue result → IsUpTo clock self.now }
+    {
+        self.last <= clock
+    }
+
+    // How many names have a write.
+    pub fn names(&self) -> usize {
+        self.latest.names()
+    }
+
     // Drops the writes up to the clock, each in logarithmic time.
     pub fn forget(&mut self, clock: u64)
         ensures { IsForgottenUpTo clock self.old self.new }
     {
-        while let Some(first) = first_up_to(&self.by_clock, clock) {
-            self.by_clock.remove(&first);
-        }
+        self.latest.forget(clock);
+        forget_up_to(&mut self.by_clock, clock);
     }
 }
 
-// The first entry above the clock.
-fn first_above(writes: &BTreeMap<u64, WriteRec>, clock: u64) -> Option<(u64, &WriteRec)>
-    ensures entry { IfSome result (λ e. at_clock writes.now.entries e.0 ≡ Some e.1.now) }
-    ensures above { IfSome result (λ e. clock < e.0) }
-    ensures first { IfSome result (λ e. (d : ℕ) → IsLtBy nat_cmp clock d → IsSome (at_clock writes.now.entries d) → IsLeBy nat_cmp e.0 d) }
-    ensures none { IfNone result ((d : ℕ) → IsLtBy nat_cmp clock d → at_clock writes.now.entries d ≡ None) }
+// Drops the entries up to the clock.
+fn forget_up_to(writes: &mut BTreeMap<u64, WriteRec>, clock: u64)
+    ensures { IsForgottenUpTo clock writes.old.entries writes.new.entries }
 {
-    match writes
-        .range((Bound::Excluded(clock), Bound::Unbounded))
-        .next()
-    {
-        Some((first, write)) => Some((*first, write)),
-        None => None,
+    while let Some(first) = first_up_to(writes, clock) {
+        writes.remove(&first);
     }
 }
 

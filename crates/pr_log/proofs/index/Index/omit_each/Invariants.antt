@@ -3,7 +3,7 @@ use Rattle.std.specs.Prelude.{◌⊎◌, ◌↔◌, IsTrue}
 use Rattle.pr_names.specs.Name.{IsName}
 use Rattle.pr_log.specs.Sets.{is_in_any}
 use Rattle.pr_log.specs.Known.{IsOmittedOf}
-use Rattle.pr_log.proofs.index.Index.omit.Given as goal
+use Rattle.pr_log.proofs.index.Index.omit_each.Given as goal
 
 abbrev pub invariant-loop-write : goal.invariant-loop-write
 invariant-loop-write l = record {
