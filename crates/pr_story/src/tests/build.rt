@@ -8,7 +8,6 @@ use pr_sets::NameSet;
 use pr_stamps::{Seq, Stamp};
 use pr_vectors::Vector;
 use std::alloc::Global;
-use std::test::Fail;
 
 /// A stamp: its clock and its node.
 pub type At = (u64, u32);
@@ -16,37 +15,37 @@ pub type At = (u64, u32);
 /// A vector: the clocks of A, B and C.
 pub type Clocks = [u64; 3];
 
-pub fn name(bytes: &[u8]) -> Result<Name, Fail> {
-    Ok(Name::read(bytes).ok().ok_or("a name")?)
+pub fn name(bytes: &[u8]) -> Option<Name> {
+    Name::read(bytes).ok()
 }
 
-pub fn set(alloc: Global, text: &[u8]) -> Result<NameSet, Fail> {
-    Ok(NameSet::read(alloc, text, 100).ok().ok_or("a set")?)
+pub fn set(alloc: Global, text: &[u8]) -> Option<NameSet> {
+    NameSet::read(alloc, text, 100).ok()
 }
 
 /// The sets of a node, of which it has one at most.
-pub fn sets(alloc: Global, text: &[u8]) -> Result<Seq<NameSet>, Fail> {
+pub fn sets(alloc: Global, text: &[u8]) -> Option<Seq<NameSet>> {
     let mut sets = Seq::new(alloc);
     if !text.is_empty() {
-        sets.push(set(alloc, text)?).ok().ok_or("no memory")?;
+        sets.push(set(alloc, text)?).ok()?;
     }
-    Ok(sets)
+    Some(sets)
 }
 
-pub fn bytes(alloc: Global, bytes: &[u8]) -> Result<Seq<u8>, Fail> {
-    Ok(Seq::copied(alloc, bytes).ok().ok_or("no memory")?)
+pub fn bytes(alloc: Global, bytes: &[u8]) -> Option<Seq<u8>> {
+    Seq::copied(alloc, bytes).ok()
 }
 
-pub fn stamp(at: At) -> Result<Stamp, Fail> {
-    Ok(Stamp::new(at.0, at.1).ok_or("a stamp")?)
+pub fn stamp(at: At) -> Option<Stamp> {
+    Stamp::new(at.0, at.1)
 }
 
-pub fn write(o: &[u8], at: At, prev: Option<At>, gone: bool) -> Result<WriteRec, Fail> {
+pub fn write(o: &[u8], at: At, prev: Option<At>, gone: bool) -> Option<WriteRec> {
     let prev = match prev {
         Some(p) => Some(stamp(p)?),
         None => None,
     };
-    Ok(WriteRec {
+    Some(WriteRec {
         name: name(o)?,
         stamp: stamp(at)?,
         prev,
@@ -64,7 +63,7 @@ pub fn vector(clocks: &Clocks) -> Vector {
     vector
 }
 
-fn rows(alloc: Global, table: &[(&[u8], At, bool)]) -> Result<Seq<Row>, Fail> {
+fn rows(alloc: Global, table: &[(&[u8], At, bool)]) -> Option<Seq<Row>> {
     let mut rows = Seq::new(alloc);
     for (o, at, gone) in table {
         let row = Row {
@@ -73,44 +72,60 @@ fn rows(alloc: Global, table: &[(&[u8], At, bool)]) -> Result<Seq<Row>, Fail> {
             gone: *gone,
             marks: Seq::new(alloc),
         };
-        rows.push(row).ok().ok_or("no memory")?;
+        rows.push(row).ok()?;
     }
-    Ok(rows)
+    Some(rows)
 }
 
-pub fn kind(alloc: Global, shape: &Shape) -> Result<Kind, Fail> {
-    Ok(match shape {
-        Shape::Precise(o, at, prev, from, to) => Kind::Precise {
-            from: vector(from),
-            to: vector(to),
-            write: write(o, *at, *prev, false)?,
-        },
-        Shape::Gone(o, at, prev, from, to) => Kind::Precise {
-            from: vector(from),
-            to: vector(to),
-            write: write(o, *at, *prev, true)?,
-        },
-        Shape::Imprecise(target, from, to) => Kind::Imprecise {
-            from: vector(from),
-            to: vector(to),
-            target: set(alloc, target)?,
-        },
-        Shape::Checkpoint(target, to, floor, table) => Kind::Checkpoint {
-            to: vector(to),
-            target: set(alloc, target)?,
-            floor: vector(floor),
-            rows: rows(alloc, table)?,
-        },
-        Shape::Body(o, at, text) => Kind::Body {
-            name: name(o)?,
-            stamp: stamp(*at)?,
-            bytes: bytes(alloc, text)?,
-        },
+fn precise(write: WriteRec, from: &Clocks, to: &Clocks) -> Kind {
+    Kind::Precise {
+        from: vector(from),
+        to: vector(to),
+        write,
+    }
+}
+
+fn checkpoint(
+    alloc: Global,
+    target: &[u8],
+    to: &Clocks,
+    floor: &Clocks,
+    table: &[(&[u8], At, bool)],
+) -> Option<Kind> {
+    Some(Kind::Checkpoint {
+        to: vector(to),
+        target: set(alloc, target)?,
+        floor: vector(floor),
+        rows: rows(alloc, table)?,
     })
 }
 
-fn reply(alloc: Global, what: &Says) -> Result<Reply, Fail> {
-    Ok(match what {
+fn body(alloc: Global, o: &[u8], at: At, text: &[u8]) -> Option<Kind> {
+    Some(Kind::Body {
+        name: name(o)?,
+        stamp: stamp(at)?,
+        bytes: bytes(alloc, text)?,
+    })
+}
+
+pub fn kind(alloc: Global, shape: &Shape) -> Option<Kind> {
+    match shape {
+        Shape::Precise(o, at, prev, from, to) => {
+            Some(precise(write(o, *at, *prev, false)?, from, to))
+        }
+        Shape::Gone(o, at, prev, from, to) => Some(precise(write(o, *at, *prev, true)?, from, to)),
+        Shape::Imprecise(target, from, to) => Some(Kind::Imprecise {
+            from: vector(from),
+            to: vector(to),
+            target: set(alloc, target)?,
+        }),
+        Shape::Checkpoint(target, to, floor, table) => checkpoint(alloc, target, to, floor, table),
+        Shape::Body(o, at, text) => body(alloc, o, *at, text),
+    }
+}
+
+fn reply(alloc: Global, what: &Says) -> Option<Reply> {
+    Some(match what {
         Says::Never => Reply::Never,
         Says::Value(at, text) => Reply::Value {
             stamp: stamp(*at)?,
@@ -124,21 +139,21 @@ fn reply(alloc: Global, what: &Says) -> Result<Reply, Fail> {
     })
 }
 
-fn pairs(alloc: Global, table: &[(At, At)]) -> Result<Found, Fail> {
+fn pairs(alloc: Global, table: &[(At, At)]) -> Option<Found> {
     let mut pairs = Seq::new(alloc);
     for (first, second) in table {
         let pair = (stamp(*first)?, stamp(*second)?);
-        pairs.push(pair).ok().ok_or("no memory")?;
+        pairs.push(pair).ok()?;
     }
-    Ok(Found::Pairs(pairs))
+    Some(Found::Pairs(pairs))
 }
 
-fn vectors(alloc: Global, table: &[Clocks]) -> Result<Seq<Vector>, Fail> {
+fn vectors(alloc: Global, table: &[Clocks]) -> Option<Seq<Vector>> {
     let mut vectors = Seq::new(alloc);
     for clocks in table {
-        vectors.push(vector(clocks)).ok().ok_or("no memory")?;
+        vectors.push(vector(clocks)).ok()?;
     }
-    Ok(vectors)
+    Some(vectors)
 }
 
 fn wrote(
@@ -147,8 +162,8 @@ fn wrote(
     write: WriteRec,
     text: &[u8],
     after: &Clocks,
-) -> Result<Event, Fail> {
-    Ok(Event::Wrote {
+) -> Option<Event> {
+    Some(Event::Wrote {
         client,
         write,
         body: bytes(alloc, text)?,
@@ -156,9 +171,9 @@ fn wrote(
     })
 }
 
-fn msg(alloc: Global, stream: u32, number: u64, time: u64, shape: &Shape) -> Result<Msg, Fail> {
+fn msg(alloc: Global, stream: u32, number: u64, time: u64, shape: &Shape) -> Option<Msg> {
     let kind = kind(alloc, shape)?;
-    Ok(Msg {
+    Some(Msg {
         time,
         stream,
         number,
@@ -167,7 +182,7 @@ fn msg(alloc: Global, stream: u32, number: u64, time: u64, shape: &Shape) -> Res
 }
 
 /// The event of the line; a message that it sends or takes has this time.
-pub fn event(alloc: Global, line: &Line, time: u64) -> Result<Event, Fail> {
+pub fn event(alloc: Global, line: &Line, time: u64) -> Option<Event> {
     match line {
         Line::Write(client, o, text, at, prev, after) => {
             wrote(alloc, *client, write(o, *at, *prev, false)?, text, after)
@@ -175,10 +190,10 @@ pub fn event(alloc: Global, line: &Line, time: u64) -> Result<Event, Fail> {
         Line::Delete(client, o, at, prev, after) => {
             wrote(alloc, *client, write(o, *at, *prev, true)?, b"", after)
         }
-        Line::Send(stream, number, shape) => Ok(Event::Sent {
+        Line::Send(stream, number, shape) => Some(Event::Sent {
             msg: msg(alloc, *stream, *number, time, shape)?,
         }),
-        Line::Accept(stream, number, shape, at) => Ok(Event::Accepted {
+        Line::Accept(stream, number, shape, at) => Some(Event::Accepted {
             msg: msg(alloc, *stream, *number, time, shape)?,
             at: vector(at),
         }),
@@ -186,47 +201,55 @@ pub fn event(alloc: Global, line: &Line, time: u64) -> Result<Event, Fail> {
     }
 }
 
-fn other_event(alloc: Global, line: &Line) -> Result<Event, Fail> {
+fn other_event(alloc: Global, line: &Line) -> Option<Event> {
     match line {
-        Line::Attach(stream, at) => Ok(Event::Attached {
+        Line::Attach(stream, at) => Some(Event::Attached {
             stream: *stream,
             at: vector(at),
         }),
-        Line::Stale(stream, cut) => Ok(Event::Stale {
+        Line::Stale(stream, cut) => Some(Event::Stale {
             stream: *stream,
             cut: vector(cut),
         }),
-        Line::Idle(stream) => Ok(Event::Idle { stream: *stream }),
-        Line::Behind(client, _, needs, has) => Ok(Event::Behind {
+        Line::Idle(stream) => Some(Event::Idle { stream: *stream }),
+        Line::Behind(client, _, needs, has) => Some(Event::Behind {
             client: *client,
             needs: vector(needs),
             has: vector(has),
         }),
-        Line::Move(client, _) => Ok(Event::Moved { client: *client }),
-        Line::Cut(_, at) => Ok(Event::Cut { at: vector(at) }),
-        Line::Drop(_, o) => Ok(Event::Dropped { name: name(o)? }),
+        Line::Move(client, _) => Some(Event::Moved { client: *client }),
+        Line::Cut(_, at) => Some(Event::Cut { at: vector(at) }),
+        Line::Drop(_, o) => Some(Event::Dropped { name: name(o)? }),
         _ => asked_event(alloc, line),
     }
 }
 
-fn asked_event(alloc: Global, line: &Line) -> Result<Event, Fail> {
+fn answered(alloc: Global, client: u32, o: &[u8], what: &Says, at: &Clocks) -> Option<Event> {
+    Some(Event::Answered {
+        client,
+        name: name(o)?,
+        reply: reply(alloc, what)?,
+        at: vector(at),
+    })
+}
+
+fn conflicts(alloc: Global, o: &[u8], table: &[(At, At)]) -> Option<Event> {
+    Some(Event::Conflicts {
+        name: name(o)?,
+        found: pairs(alloc, table)?,
+    })
+}
+
+fn asked_event(alloc: Global, line: &Line) -> Option<Event> {
     match line {
-        Line::Read(client, _, o, what, at) => Ok(Event::Answered {
-            client: *client,
-            name: name(o)?,
-            reply: reply(alloc, what)?,
-            at: vector(at),
-        }),
-        Line::Conflicts(_, o, table) => Ok(Event::Conflicts {
-            name: name(o)?,
-            found: pairs(alloc, table)?,
-        }),
-        Line::State(_, at, cut, floor, precise) => Ok(Event::State {
+        Line::Read(client, _, o, what, at) => answered(alloc, *client, o, what, at),
+        Line::Conflicts(_, o, table) => conflicts(alloc, o, table),
+        Line::State(_, at, cut, floor, precise) => Some(Event::State {
             at: vector(at),
             cut: vector(cut),
             floor: vector(floor),
             precise: vectors(alloc, precise)?,
         }),
-        _ => Err(Fail::from("a line of another kind")),
+        _ => None,
     }
 }

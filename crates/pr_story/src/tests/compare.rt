@@ -9,7 +9,6 @@ use pr_names::Name;
 use pr_sets::NameSet;
 use pr_stamps::Stamp;
 use std::alloc::Global;
-use std::test::Fail;
 
 pub fn is_at(stamp: &Stamp, at: At) -> bool {
     stamp.clock() == at.0 && stamp.node() == at.1
@@ -50,9 +49,9 @@ fn are_pairs(found: &[(Stamp, Stamp)], pairs: &[(At, At)]) -> bool {
 }
 
 /// Whether the set is that of the text.
-fn is_set(alloc: Global, names: &NameSet, text: &[u8]) -> Result<bool, Fail> {
+fn is_set(alloc: Global, names: &NameSet, text: &[u8]) -> Option<bool> {
     let other = set(alloc, text)?;
-    Ok(names.within(&other) && other.within(names))
+    Some(names.within(&other) && other.within(names))
 }
 
 fn is_write(write: &WriteRec, o: &[u8], at: At, prev: &Option<At>, gone: bool) -> bool {
@@ -75,50 +74,95 @@ fn is_row(row: &Row, o: &[u8], at: At, gone: bool) -> bool {
     is_name(&row.name, o) && is_at(&row.newest, at) && row.gone == gone && row.marks.is_empty()
 }
 
-/// Whether the message is of this shape.
-pub fn is_kind(alloc: Global, kind: &Kind, shape: &Shape) -> Result<bool, Fail> {
-    Ok(match (kind, shape) {
-        (Kind::Precise { from, to, write }, Shape::Precise(o, at, prev, start, end)) => {
-            *from == vector(start) && *to == vector(end) && is_write(write, o, *at, prev, false)
-        }
-        (Kind::Precise { from, to, write }, Shape::Gone(o, at, prev, start, end)) => {
-            *from == vector(start) && *to == vector(end) && is_write(write, o, *at, prev, true)
-        }
-        (Kind::Imprecise { from, to, target }, Shape::Imprecise(text, start, end)) => {
-            *from == vector(start) && *to == vector(end) && is_set(alloc, target, text)?
-        }
-        (Kind::Body { name, stamp, bytes }, Shape::Body(o, at, text)) => {
-            is_name(name, o) && is_at(stamp, *at) && bytes.as_slice() == *text
-        }
-        _ => is_checkpoint(alloc, kind, shape)?,
-    })
+fn is_precise(kind: &Kind, from: &Clocks, to: &Clocks) -> bool {
+    match kind {
+        Kind::Precise {
+            from: start,
+            to: end,
+            ..
+        } => *start == vector(from) && *end == vector(to),
+        _ => false,
+    }
 }
 
-fn is_checkpoint(alloc: Global, kind: &Kind, shape: &Shape) -> Result<bool, Fail> {
-    Ok(match (kind, shape) {
-        (
-            Kind::Checkpoint {
-                to,
-                target,
-                floor,
-                rows,
-            },
-            Shape::Checkpoint(text, end, least, table),
-        ) => {
-            *to == vector(end)
-                && *floor == vector(least)
-                && are_rows(rows.as_slice(), table)
-                && is_set(alloc, target, text)?
+fn has_write(kind: &Kind, o: &[u8], at: At, prev: &Option<At>, gone: bool) -> bool {
+    match kind {
+        Kind::Precise { write, .. } => is_write(write, o, at, prev, gone),
+        _ => false,
+    }
+}
+
+fn is_imprecise(
+    alloc: Global,
+    kind: &Kind,
+    text: &[u8],
+    start: &Clocks,
+    end: &Clocks,
+) -> Option<bool> {
+    match kind {
+        Kind::Imprecise { from, to, target } => {
+            Some(*from == vector(start) && *to == vector(end) && is_set(alloc, target, text)?)
+        }
+        _ => Some(false),
+    }
+}
+
+fn is_checkpoint(
+    alloc: Global,
+    kind: &Kind,
+    text: &[u8],
+    end: &Clocks,
+    least: &Clocks,
+) -> Option<bool> {
+    match kind {
+        Kind::Checkpoint {
+            to,
+            target,
+            floor,
+            ..
+        } => Some(*to == vector(end) && *floor == vector(least) && is_set(alloc, target, text)?),
+        _ => Some(false),
+    }
+}
+
+fn has_rows(kind: &Kind, table: &[(&[u8], At, bool)]) -> bool {
+    match kind {
+        Kind::Checkpoint { rows, .. } => are_rows(rows.as_slice(), table),
+        _ => false,
+    }
+}
+
+fn is_body(kind: &Kind, o: &[u8], at: At, text: &[u8]) -> bool {
+    match kind {
+        Kind::Body { name, stamp, bytes } => {
+            is_name(name, o) && is_at(stamp, at) && bytes.as_slice() == text
         }
         _ => false,
-    })
+    }
+}
+
+/// Whether the message is of this shape.
+pub fn is_kind(alloc: Global, kind: &Kind, shape: &Shape) -> Option<bool> {
+    match shape {
+        Shape::Precise(o, at, prev, from, to) => {
+            Some(is_precise(kind, from, to) && has_write(kind, o, *at, prev, false))
+        }
+        Shape::Gone(o, at, prev, from, to) => {
+            Some(is_precise(kind, from, to) && has_write(kind, o, *at, prev, true))
+        }
+        Shape::Imprecise(text, from, to) => is_imprecise(alloc, kind, text, from, to),
+        Shape::Checkpoint(text, to, floor, table) => {
+            Some(has_rows(kind, table) && is_checkpoint(alloc, kind, text, to, floor)?)
+        }
+        Shape::Body(o, at, text) => Some(is_body(kind, o, *at, text)),
+    }
 }
 
 /// Whether the turn sends a message of this shape.
-pub fn sends(alloc: Global, next: &Next, shape: &Shape) -> Result<bool, Fail> {
+pub fn sends(alloc: Global, next: &Next, shape: &Shape) -> Option<bool> {
     match next {
         Next::Send(kind) => is_kind(alloc, kind, shape),
-        _ => Ok(false),
+        _ => Some(false),
     }
 }
 

@@ -1,13 +1,13 @@
 // Journals.
 
 use crate::{Cause, Entry, Event, Journal};
-use std::test::Fail;
+use std::alloc::Global;
 
-#[test]
-fn a_journal_keeps_its_entries(rt: HostRuntime) -> Result<(), Fail> {
-    let mut journal = Journal::new(rt.alloc());
+// Three entries, at times 1 to 3.
+fn three(alloc: Global) -> Option<Journal> {
+    let mut journal = Journal::new(alloc);
     for time in 1..4 {
-        journal.reserve().ok().ok_or("no memory")?;
+        journal.reserve().ok()?;
         journal.push(Entry {
             time,
             caller: 0,
@@ -17,7 +17,16 @@ fn a_journal_keeps_its_entries(rt: HostRuntime) -> Result<(), Fail> {
             },
         });
     }
-    let mut times = journal.entries().iter().map(|e| e.time);
-    assert!(rt; journal.len() == 3 && times.next() == Some(1) && times.last() == Some(3));
-    Ok(())
+    Some(journal)
+}
+
+fn are_kept(alloc: Global) -> Option<bool> {
+    let journal = three(alloc)?;
+    let entries = journal.entries();
+    Some(journal.len() == 3 && entries.first()?.time == 1 && entries.last()?.time == 3)
+}
+
+#[test]
+fn a_journal_keeps_its_entries(rt: HostRuntime) {
+    assert!(rt; are_kept(rt.alloc()).unwrap_or(false));
 }

@@ -7,7 +7,6 @@ use pr_inval::{Kind, Session};
 use pr_sets::NameSet;
 use pr_stamps::{MAX, NoMemory, Seq};
 use std::alloc::Global;
-use std::test::Fail;
 
 /// The entries of A, B and C, and all of them in order. Each node has one set, or none where its text is empty.
 #[derive(Drop)]
@@ -37,12 +36,12 @@ impl Stream {
         nodes: (u32, u32),
         names: &[u8],
         bodies: bool,
-    ) -> Result<Stream, Fail> {
+    ) -> Option<Stream> {
         let sub = set(alloc, names)?;
         if sub.is_empty() {
-            return Err(Fail::from("no name"));
+            return None;
         }
-        Ok(Stream {
+        Some(Stream {
             source: nodes.0,
             destination: nodes.1,
             session: Session::new(alloc, number, sub, bodies),
@@ -50,10 +49,10 @@ impl Stream {
     }
 
     // The stream has sent this at this time.
-    fn note(&mut self, kind: &Kind, time: u64) -> Result<(), Fail> {
-        self.session.room().ok().ok_or("no memory")?;
+    fn note(&mut self, kind: &Kind, time: u64) -> Option<()> {
+        self.session.room().ok()?;
         if !self.session.is_attached() || time > MAX || time <= self.session.time() {
-            return Err(Fail::from("not attached"));
+            return None;
         }
         match kind {
             Kind::Body { name, stamp, .. } => self.session.sent_body(name, stamp, time),
@@ -61,7 +60,7 @@ impl Stream {
             Kind::Imprecise { to, .. } => self.session.sent(to, time),
             Kind::Checkpoint { to, .. } => self.session.sent(to, time),
         }
-        Ok(())
+        Some(())
     }
 }
 
@@ -87,7 +86,7 @@ impl<'a> Replay<'a> {
         }
     }
 
-    pub fn sets(&self, alloc: Global, node: u32) -> Result<Seq<NameSet>, Fail> {
+    pub fn sets(&self, alloc: Global, node: u32) -> Option<Seq<NameSet>> {
         match node {
             0 => sets(alloc, self.texts[0]),
             1 => sets(alloc, self.texts[1]),
@@ -135,40 +134,27 @@ impl<'a> Replay<'a> {
         }
     }
 
-    // The entry of the line.
-    fn entry(&self, alloc: Global, line: &Line) -> Result<Entry, Fail> {
+    /// Adds the entry of the line.
+    pub fn take(&mut self, alloc: Global, line: &Line) -> Option<()> {
         let heard = self.heard(line);
         let last = last_time(self.entries(self.node(line)));
-        let time = last.max(heard).checked_add(1).ok_or("a time")?;
-        let sent = match line {
-            Line::Accept(_, _, _, _) => heard,
-            _ => time,
-        };
-        Ok(Entry {
-            time,
-            caller: 0,
-            event: event(alloc, line, sent)?,
-        })
-    }
-
-    /// Adds the entry of the line.
-    pub fn take(&mut self, alloc: Global, line: &Line) -> Result<(), Fail> {
-        let entry = self.entry(alloc, line)?;
-        let again = self.entry(alloc, line)?;
-        let time = entry.time;
-        self.push(self.node(line), entry, again)
-            .ok()
-            .ok_or("no memory")?;
+        let time = last.max(heard).checked_add(1)?;
+        self.add(alloc, line, time, heard)?;
         match line {
             Line::Attach(stream, at) => self.begin(*stream, at),
             Line::Send(stream, _, shape) => self.note(alloc, *stream, shape, time)?,
             _ => {}
         }
-        Ok(())
+        Some(())
     }
 
-    fn push(&mut self, node: u32, entry: Entry, again: Entry) -> Result<(), NoMemory> {
-        self.all.push(again)?;
+    fn add(&mut self, alloc: Global, line: &Line, time: u64, heard: u64) -> Option<()> {
+        self.all.push(entry(alloc, line, time, heard)?).ok()?;
+        let node = self.node(line);
+        self.push(node, entry(alloc, line, time, heard)?).ok()
+    }
+
+    fn push(&mut self, node: u32, entry: Entry) -> Result<(), NoMemory> {
         match node {
             0 => self.a.push(entry),
             1 => self.b.push(entry),
@@ -184,7 +170,7 @@ impl<'a> Replay<'a> {
         }
     }
 
-    fn note(&mut self, alloc: Global, stream: u32, shape: &Shape, time: u64) -> Result<(), Fail> {
+    fn note(&mut self, alloc: Global, stream: u32, shape: &Shape, time: u64) -> Option<()> {
         let kind = kind(alloc, shape)?;
         if stream == 0 {
             self.first.note(&kind, time)
@@ -192,6 +178,19 @@ impl<'a> Replay<'a> {
             self.second.note(&kind, time)
         }
     }
+}
+
+// The entry of the line, at this time.
+fn entry(alloc: Global, line: &Line, time: u64, heard: u64) -> Option<Entry> {
+    let sent = match line {
+        Line::Accept(_, _, _, _) => heard,
+        _ => time,
+    };
+    Some(Entry {
+        time,
+        caller: 0,
+        event: event(alloc, line, sent)?,
+    })
 }
 
 // The time of the last entry.

@@ -10,21 +10,20 @@ use pr_inval::Kind;
 use pr_sets::NameSet;
 use pr_vectors::Vector;
 use std::alloc::Global;
-use std::test::Fail;
 
 /// Whether all of the lines are shown, each taken before the next.
-pub fn are_shown(alloc: Global, replay: &mut Replay, lines: &[Line]) -> Result<bool, Fail> {
+pub fn are_shown(alloc: Global, replay: &mut Replay, lines: &[Line]) -> Option<bool> {
     for line in lines {
         if !is_shown(alloc, replay, line)? {
-            return Ok(false);
+            return Some(false);
         }
         replay.take(alloc, line)?;
     }
-    Ok(true)
+    Some(true)
 }
 
 // Whether the line is what the plain program gives.
-fn is_shown(alloc: Global, replay: &Replay, line: &Line) -> Result<bool, Fail> {
+fn is_shown(alloc: Global, replay: &Replay, line: &Line) -> Option<bool> {
     match line {
         Line::Write(client, o, _, at, prev, after) => {
             is_written(replay, *client, o, *at, prev, after)
@@ -33,37 +32,52 @@ fn is_shown(alloc: Global, replay: &Replay, line: &Line) -> Result<bool, Fail> {
             is_written(replay, *client, o, *at, prev, after)
         }
         Line::Read(client, node, o, what, at) => {
-            Ok(has_seen(replay, *client, *node, at) && is_answered(alloc, replay, *node, o, what)?)
+            Some(
+                has_seen(replay, *client, *node, at) && is_answered(alloc, replay, *node, o, what)?,
+            )
         }
         Line::Behind(client, node, needs, has) => {
-            Ok(is_behind(replay, *client, *node, needs, has))
+            Some(is_behind(replay, *client, *node, needs, has))
         }
         Line::Conflicts(node, o, pairs) => are_conflicts(alloc, replay, *node, o, pairs),
         _ => is_other(alloc, replay, line),
     }
 }
 
-fn is_other(alloc: Global, replay: &Replay, line: &Line) -> Result<bool, Fail> {
+fn is_other(alloc: Global, replay: &Replay, line: &Line) -> Option<bool> {
     match line {
-        Line::Attach(stream, at) => Ok(start(alloc, replay, *stream)? == vector(at)),
+        Line::Attach(stream, at) => Some(start(alloc, replay, *stream)? == vector(at)),
         Line::Send(stream, number, shape) => {
-            Ok(is_next(replay, *stream, *number) && is_sent(alloc, replay, *stream, shape)?)
+            Some(is_next(replay, *stream, *number) && is_sent(alloc, replay, *stream, shape)?)
         }
-        Line::Idle(stream) => Ok(is_idle(&turn(alloc, replay, *stream)?)),
-        Line::Stale(stream, cut) => Ok(is_stale(&turn(alloc, replay, *stream)?, cut)),
-        Line::Accept(_, _, shape, at) => {
-            let now = plain::current_vector(replay.entries(replay.node(line)));
-            Ok(is_taken(&kind(alloc, shape)?, &now, &vector(at)))
-        }
-        Line::Cut(node, at) => Ok(plain::current_vector(replay.entries(*node)) == vector(at)),
-        Line::State(node, at, cut, floor, precise) => {
-            Ok(
-                are_vectors(replay, *node, at, cut, floor)
-                    && is_precise(alloc, replay, *node, precise)?,
-            )
-        }
-        _ => Ok(true),
+        Line::Accept(_, _, shape, at) => is_accepted(alloc, replay, replay.node(line), shape, at),
+        Line::Cut(node, at) => Some(plain::current_vector(replay.entries(*node)) == vector(at)),
+        Line::State(node, at, cut, floor, precise) => Some(
+            are_vectors(replay, *node, at, cut, floor)
+                && is_precise(alloc, replay, *node, precise)?,
+        ),
+        _ => is_ended(alloc, replay, line),
     }
+}
+
+// Whether the stream's turn sends nothing, where the line shows that.
+fn is_ended(alloc: Global, replay: &Replay, line: &Line) -> Option<bool> {
+    match line {
+        Line::Idle(stream) => Some(is_idle(&turn(alloc, replay, *stream)?)),
+        Line::Stale(stream, cut) => Some(is_stale(&turn(alloc, replay, *stream)?, cut)),
+        _ => Some(true),
+    }
+}
+
+fn is_accepted(
+    alloc: Global,
+    replay: &Replay,
+    node: u32,
+    shape: &Shape,
+    at: &Clocks,
+) -> Option<bool> {
+    let now = plain::current_vector(replay.entries(node));
+    Some(is_taken(&kind(alloc, shape)?, &now, &vector(at)))
 }
 
 // ---- clients
@@ -87,14 +101,14 @@ fn is_written(
     at: At,
     prev: &Option<At>,
     after: &Clocks,
-) -> Result<bool, Fail> {
+) -> Option<bool> {
     let entries = replay.entries(at.1);
     let known = match plain::newest_known(entries, &name(o)?) {
         Some(newest) => Some(newest.stamp),
         None => None,
     };
     let greatest = plain::current_vector(entries).greatest();
-    Ok(
+    Some(
         has_seen(replay, client, at.1, after)
             && is_over(&known, prev)
             && greatest < at.0
@@ -104,19 +118,11 @@ fn is_written(
 
 // ---- what a node says
 
-fn is_answered(
-    alloc: Global,
-    replay: &Replay,
-    node: u32,
-    o: &[u8],
-    what: &Says,
-) -> Result<bool, Fail> {
+fn is_answered(alloc: Global, replay: &Replay, node: u32, o: &[u8], what: &Says) -> Option<bool> {
     let sets = replay.sets(alloc, node)?;
     let name = name(o)?;
-    let reply = plain::answer(alloc, node, sets.as_slice(), replay.entries(node), &name)
-        .ok()
-        .ok_or("no memory")?;
-    Ok(is_said(&reply, what))
+    let reply = plain::answer(alloc, node, sets.as_slice(), replay.entries(node), &name).ok()?;
+    Some(is_said(&reply, what))
 }
 
 fn are_conflicts(
@@ -125,13 +131,11 @@ fn are_conflicts(
     node: u32,
     o: &[u8],
     pairs: &[(At, At)],
-) -> Result<bool, Fail> {
+) -> Option<bool> {
     let sets = replay.sets(alloc, node)?;
     let name = name(o)?;
-    let found = plain::conflicts(alloc, node, sets.as_slice(), replay.entries(node), &name)
-        .ok()
-        .ok_or("no memory")?;
-    Ok(is_found(&found, pairs))
+    let found = plain::conflicts(alloc, node, sets.as_slice(), replay.entries(node), &name).ok()?;
+    Some(is_found(&found, pairs))
 }
 
 fn are_vectors(replay: &Replay, node: u32, at: &Clocks, cut: &Clocks, floor: &Clocks) -> bool {
@@ -142,14 +146,14 @@ fn are_vectors(replay: &Replay, node: u32, at: &Clocks, cut: &Clocks, floor: &Cl
 }
 
 // Whether these are the last precise vectors of the node's sets and then of the rest.
-fn is_precise(alloc: Global, replay: &Replay, node: u32, precise: &[Clocks]) -> Result<bool, Fail> {
+fn is_precise(alloc: Global, replay: &Replay, node: u32, precise: &[Clocks]) -> Option<bool> {
     let mut sets = replay.sets(alloc, node)?;
-    let rest = plain::rest_of(alloc, sets.as_slice())
-        .ok()
-        .ok_or("no memory")?;
-    sets.push(rest).ok().ok_or("no memory")?;
+    let rest = plain::rest_of(alloc, sets.as_slice()).ok()?;
+    sets.push(rest).ok()?;
     let mut both = sets.as_slice().iter().zip(precise.iter());
-    Ok(sets.len() == precise.len() && both.all(|(set, clocks)| is_last(replay, node, set, clocks)))
+    Some(
+        sets.len() == precise.len() && both.all(|(set, clocks)| is_last(replay, node, set, clocks)),
+    )
 }
 
 fn is_last(replay: &Replay, node: u32, set: &NameSet, clocks: &Clocks) -> bool {
@@ -158,43 +162,26 @@ fn is_last(replay: &Replay, node: u32, set: &NameSet, clocks: &Clocks) -> bool {
 
 // ---- messages
 
-fn start(alloc: Global, replay: &Replay, number: u32) -> Result<Vector, Fail> {
+fn start(alloc: Global, replay: &Replay, number: u32) -> Option<Vector> {
     let stream = replay.stream(number);
     let node = stream.destination;
     let sets = replay.sets(alloc, node)?;
     let names = stream.session.sub();
-    Ok(
-        plain::start(alloc, node, sets.as_slice(), replay.entries(node), names)
-            .ok()
-            .ok_or("no memory")?,
-    )
+    plain::start(alloc, node, sets.as_slice(), replay.entries(node), names).ok()
 }
 
-fn turn(alloc: Global, replay: &Replay, number: u32) -> Result<Next, Fail> {
+fn turn(alloc: Global, replay: &Replay, number: u32) -> Option<Next> {
     let stream = replay.stream(number);
     let entries = replay.entries(stream.source);
-    Ok(
-        plain::turn(alloc, stream.source, entries, &stream.session)
-            .ok()
-            .ok_or("no memory")?,
-    )
+    plain::turn(alloc, stream.source, entries, &stream.session).ok()
 }
 
-fn snapshot(alloc: Global, replay: &Replay, number: u32) -> Result<Kind, Fail> {
+fn snapshot(alloc: Global, replay: &Replay, number: u32) -> Option<Kind> {
     let stream = replay.stream(number);
     let sets = replay.sets(alloc, stream.source)?;
     let entries = replay.entries(stream.source);
-    Ok(
-        plain::snapshot(
-            alloc,
-            stream.source,
-            sets.as_slice(),
-            entries,
-            stream.session.sub(),
-        )
-        .ok()
-        .ok_or("no memory")?,
-    )
+    let names = stream.session.sub();
+    plain::snapshot(alloc, stream.source, sets.as_slice(), entries, names).ok()
 }
 
 // Whether the stream's next message has this number.
@@ -203,11 +190,15 @@ fn is_next(replay: &Replay, stream: u32, number: u64) -> bool {
     sent < number && number - sent == 1
 }
 
-fn is_sent(alloc: Global, replay: &Replay, stream: u32, shape: &Shape) -> Result<bool, Fail> {
+fn is_sent(alloc: Global, replay: &Replay, stream: u32, shape: &Shape) -> Option<bool> {
     match shape {
-        Shape::Checkpoint(_, _, _, _) => is_kind(alloc, &snapshot(alloc, replay, stream)?, shape),
+        Shape::Checkpoint(_, _, _, _) => is_snapshot(alloc, replay, stream, shape),
         _ => sends(alloc, &turn(alloc, replay, stream)?, shape),
     }
+}
+
+fn is_snapshot(alloc: Global, replay: &Replay, stream: u32, shape: &Shape) -> Option<bool> {
+    is_kind(alloc, &snapshot(alloc, replay, stream)?, shape)
 }
 
 // Whether the message may be taken at this vector, and gives that one.
