@@ -16,9 +16,9 @@ use Rattle.pr_story.specs.declared.reply.Reply.{Reply}
 use Rattle.pr_story.specs.Clients.{client_vector, is_of_client, node_after, seen_after}
 use Rattle.pr_story.specs.History.{NodeEntry, Plan, journal}
 use Rattle.pr_story.specs.Places.{places_of}
-use Rattle.pr_sim.specs.Holding.{HasRoomFor, IsNext, IsSentOfStream, KeepsRecords, NamesClient, journal_of}
+use Rattle.pr_sim.specs.Holding.{HasRoomFor, IsAttachedOfStream, IsNext, IsSentOfStream, KeepsRecords, NamesClient, journal_of}
 use Rattle.pr_sim.specs.Places.{HasNoted}
-use Rattle.pr_sim.specs.Running.{AreClients, AreRoutes, AreSent}
+use Rattle.pr_sim.specs.Running.{AreClients, AreRoutes, AreScans, AreSent}
 use Rattle.pr_story.proofs.OfStreams.{not_equal, same_is}
 use Rattle.pr_sim.proofs.OfClients.{client_saw}
 use Rattle.pr_sim.specs.declared.engine.Engine.{Engine}
@@ -217,6 +217,10 @@ sends_of_stream k n (Dropped name) is named = tt
 sends_of_stream k n (Conflicts name found) is named = tt
 sends_of_stream k n (State at cut floor precise) is named = tt
 
+pub attaches_stream : (k : Counts) (n : ℕ) (v : Event) → n ≡ k.streams → IsDeclared k v → IsAttachedOfStream n v
+attaches_stream k n (Attached s at) is named = subst (λ (i : ℕ). s < i) (sym is) named
+attaches_stream k n _ is named = tt
+
 -- ---- one entry of a node
 
 -- the entry that stands at the place is the next one
@@ -231,8 +235,9 @@ pub kept_then : (d : Declared) (h : List NodeEntry) (x : NodeEntry) (e f : Engin
     → f.nodes ≡ e.nodes → f.sessions ≡ e.sessions → f.routes ≡ e.routes
     → (node < length e.nodes.items → AreClients d.plan (record { node = node; entry = entry } ∷ h) (length e.nodes.items) f.homes.items f.seen.items)
     → (place ≡ length (journal h node) → AreSent (record { node = node; entry = entry } ∷ h) f.sent.items)
-    → length f.sent.items ≡ length e.sent.items → KeepsRecords d (x ∷ h) f
-kept_then d h x e f node place entry next is k nodes sessions routes clients sent many =
+    → length f.sent.items ≡ length e.sent.items
+    → AreScans d.plan (record { node = node; entry = entry } ∷ h) f.scans.items → length f.scans.items ≡ length e.scans.items → KeepsRecords d (x ∷ h) f
+kept_then d h x e f node place entry next is k nodes sessions routes clients sent many scans many_scans =
     let of : x.node ≡ node = sym next.node in
     let same : record { node = node; entry = entry } ≡ x = ap (λ (n : ℕ). record { node = n; entry = entry }) (sym of) ∙ ap (λ (y : Entry). record { node = x.node; entry = y }) is in
     let streams : length e.sessions.items ≡ length f.sessions.items = ap (λ xs. length xs.items) (sym sessions) in
@@ -243,6 +248,8 @@ kept_then d h x e f node place entry next is k nodes sessions routes clients sen
       sent = sent (next.at ∙ ap (λ (n : ℕ). length (journal h n)) of);
       many = ap (λ xs. length xs.items) routes ∙ k.many ∙ streams;
       many_sent = many ∙ k.many_sent ∙ streams;
+      scans = scans;
+      many_scans = many_scans ∙ k.many_scans ∙ streams;
     })
 
 -- ---- place after place

@@ -13,7 +13,7 @@ use Rattle.pr_flow.specs.declared.flow_end.FlowEnd.{FlowEnd}
 use Rattle.pr_flow.specs.declared.flow_end.FlowEnd.TheVariants as ends
 use Rattle.pr_flow.specs.declared.stop.Stop.{Stop}
 use Rattle.pr_flow.specs.declared.stop.Stop.TheVariants as stops
-use Rattle.pr_flow.specs.Crossing.{Carried, IsCutShort, IsItem, with_item}
+use Rattle.pr_flow.specs.Crossing.{IsCutShort, IsItem, with_item}
 use Rattle.pr_flow.specs.Flows.{crossed}
 use Rattle.pr_flow.specs.Moving.{IsCut, Moves, MovesPart}
 use Rattle.pr_flow.proofs.Growing.{grows_more, grows_none}

@@ -1,9 +1,8 @@
 -- A flow, turn by turn.
-use Rattle.std.proofs.Common.{◌≡◌, ◌≢◌, ℕ, ◌+◌, ◌-◌, ◌<◌, ◌≤◌, List, [], ◌∷◌, ◌++◌, Result, Ok, Err, IsErrAnd, inl, inr, refl, sym, ◌∙◌, ap, subst, cond, length, get_or, reverse, arith}
-use Rattle.std.specs.Prelude.{true, Bool, IsTrue, Some, None, Option}
+use Rattle.std.proofs.Common.{◌≡◌, ◌≢◌, ℕ, ◌+◌, ◌-◌, ◌<◌, List, [], ◌∷◌, ◌++◌, Result, Ok, Err, IsErrAnd, inl, inr, refl, sym, ◌∙◌, ap, subst, length, get_or, reverse, arith}
+use Rattle.std.specs.Prelude.{Bool, IsTrue, Some, None, Option}
 use Rattle.std.proofs.lemmas.List.{append_assoc, reverse-append}
 use Rattle.std.proofs.lemmas.Result.{err_from_is_err_and}
-use Rattle.std.proofs.lemmas.Bool.Decides.{Decides-eqb}
 use Rattle.pr_inval.specs.declared.msg.Msg.{Msg}
 use Rattle.pr_inval.specs.declared.node_fault.NodeFault.{NodeFault}
 use Rattle.pr_inval.specs.declared.step.Step.{Step}
@@ -24,18 +23,19 @@ use Rattle.pr_story.specs.declared.event.Event.{Event}
 use Rattle.pr_story.specs.declared.event.Event.TheVariants.{Down, Gapped, Stale}
 use Rattle.pr_story.specs.Clients.{client_vector}
 use Rattle.pr_story.specs.History.{Plan, NodeEntry, Sends, journal}
-use Rattle.pr_story.specs.Lawful.{HasCause, IsPlaced, is_after_gap, is_gap}
+use Rattle.pr_story.specs.Lawful.{HasCause, IsPlaced}
 use Rattle.pr_story.specs.Places as story
 use Rattle.pr_story.specs.Places.{sent_places}
 use Rattle.pr_story.specs.Scripts.{AreTurns, events_of}
 use Rattle.pr_story.specs.Sessions.{HasGoneOn}
-use Rattle.pr_story.specs.Turns.{IsAttached, event_of, is_of_stream}
+use Rattle.pr_story.specs.Turns.{IsAttached, event_of, Attaches}
 use Rattle.pr_inval.specs.Messages.{IsMessage}
 use Rattle.pr_wires.specs.Calls.{WireState}
+use Rattle.pr_sim.proofs.Scans.{scans_more}
 use Rattle.pr_sim.specs.Commands.{Grows, IsCause, IsTurnMade, MakesOne}
 use Rattle.pr_sim.specs.Flowing.{CanGoDown, IsBegun, IsDownMade, IsOnTheWay, LeadsTo, TurnsEnd}
 use Rattle.pr_merge.specs.Holding.{IsSession}
-use Rattle.pr_sim.specs.Running.{HasAttached, IsRunning, Tells}
+use Rattle.pr_sim.specs.Running.{HasAttached, IsRunning, Tells, AreScans}
 use Rattle.pr_story.specs.Counts.{Declared}
 use Rattle.pr_sim.specs.declared.engine.Engine.{Engine}
 use Rattle.pr_story.proofs.OfStreams.{IsOfStream, after_gap, down_is as is_down}
@@ -96,9 +96,9 @@ stays_attached d a h g e f s k l known (x, is, on) =
 pub down_ends : (d : Declared) (attached : ℕ → Bool) (h : List NodeEntry) (e f : Engine) (k : IsRunning d attached h e) (n : ℕ) (m x : Stored) (place : ℕ) (moved : HasMoved e f n m x place) (caller : ℕ)
     (s : ℕ) (old new : Remembered) (known : s < length e.sessions.items) (was : get_or e.sessions.items s None ≡ Some old) (cause : Cause)
     (a : Adds (means m) (means x) (λ _. (session.means old).standing) (client_vector h) caller (λ entry. IsDownFor old.stream cause entry × HasGoneOn (session.means old) (session.means new) old.attached entry))
-    → f.sessions.items ≡ put e.sessions.items s new → f.routes ≡ e.routes → f.homes ≡ e.homes → f.seen ≡ e.seen → f.sent ≡ e.sent
+    → f.sessions.items ≡ put e.sessions.items s new → f.routes ≡ e.routes → f.homes ≡ e.homes → f.seen ≡ e.seen → f.sent ≡ e.sent → f.scans ≡ e.scans
     → n ≡ (d.plan.stream s).destination → CanGoDown d.plan h s cause → MakesOne d attached h (IsDownMade s cause) f (Ok tt)
-down_ends d attached h e f k n m x place moved caller s old new known was cause a same_sessions same_routes same_homes same_seen same_sent placed can =
+down_ends d attached h e f k n m x place moved caller s old new known was cause a same_sessions same_routes same_homes same_seen same_sent same_scans placed can =
     let i : IsSession d.plan h s old = session_of d.plan h e.sessions.items s old k.stands.sessions known was in
     let is : Down s cause ≡ a.entry.event = sym (a.is.0 ∙ ap (λ (t : ℕ). Down t cause) i.stream) in
     stream_ends d attached h e f k n m x place moved caller s old new known was (IsDownMade s cause tt)
@@ -111,6 +111,9 @@ down_ends d attached h e f k n m x place moved caller s old new known was cause 
     (λ at_place t d lt.
     ap (λ xs. (get_or xs.items t d).items) same_sent ∙ k.stands.sent t d (let l : length f.sent.items ≡ length e.sent.items = ap (λ xs. length xs.items) same_sent in omega arith)
     ∙ ap (λ (v : Event). story.sent_after v t (length (journal h n)) (sent_places h t)) is)
+    (ap (λ xs. length xs.items) same_scans)
+    (λ i j are. subst (λ xs. AreScans d.plan (record { node = n; entry = a.entry } ∷ h) xs.items) (sym same_scans)
+    (scans_more d.plan (record { node = n; entry = a.entry }) h e.scans.items (λ t to. subst (λ (v : Event). Attaches v t) (sym is) to) are))
 
 -- ---- where turns begin
 

@@ -1,21 +1,20 @@
 -- The jobs of a phase, one after the other.
-use Rattle.std.proofs.Common.{◌≡◌, ℕ, ◌<◌, ◌≤◌, ◌+◌, List, [], ◌∷◌, ◌++◌, Result, refl, sym, ◌∙◌, ap, subst, length, get_or, take, drop, arith, zero, suc}
+use Rattle.std.proofs.Common.{◌≡◌, ℕ, ◌<◌, ◌+◌, List, [], ◌∷◌, ◌++◌, Result, refl, sym, ◌∙◌, ap, subst, length, get_or, take, drop, arith, zero, suc}
 use Rattle.std.specs.Prelude.{true, false, Bool, cond}
-use Rattle.std.specs.List.{AllByRecursion, filter, flat_map, fold}
+use Rattle.std.specs.List.{AllByRecursion, filter, flat_map}
 use Rattle.std.proofs.lemmas.Grind.{flat_map-append}
 use Rattle.std.proofs.lemmas.List.{append_assoc, append-nil, take-append-drop, take_more}
-use Rattle.std.proofs.lemmas.List.Elements.{filter-append, filter_more}
+use Rattle.std.proofs.lemmas.List.Elements.{filter-append}
 use Rattle.pr_inval.specs.declared.node_fault.NodeFault.{NodeFault}
 use Rattle.pr_script.specs.declared.command.Command.{Command as Said}
 use Rattle.pr_script.specs.declared.command.Command.TheVariants as commands
 use Rattle.pr_script.specs.declared.owner.Owner.TheVariants as owner
-use Rattle.pr_script.specs.Known.{turns_after}
-use Rattle.pr_script.specs.Steps.{Numbered, owner_of, turns_in}
+use Rattle.pr_script.specs.Steps.{Numbered, owner_of}
 use Rattle.pr_story.specs.Commands.{Command}
 use Rattle.pr_story.specs.History.{NodeEntry}
 use Rattle.pr_story.specs.Scripts.{AreOfCommands, ClientJob, JobBegins}
 use Rattle.pr_story.proofs.Begun.{nothing_begins}
-use Rattle.pr_text.specs.Steps.{is_owned_by, line_of, lines_by, single_of}
+use Rattle.pr_text.specs.Steps.{is_owned_by, line_of, single_of}
 use Rattle.pr_sim.specs.Commands.{Ends}
 use Rattle.pr_sim.specs.Phasing.{GivesAll, IsJobLine, asked_by, asked_of}
 use Rattle.pr_sim.specs.Running.{IsRunning}

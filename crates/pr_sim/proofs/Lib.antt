@@ -5,6 +5,7 @@ pub mod Telling
 pub mod Faults
 pub mod Ending
 pub mod OfClients
+pub mod Scans
 pub mod OfStreams
 pub mod Sendings
 pub mod Receiving

@@ -8,7 +8,10 @@ use Rattle.std.proofs.lemmas.List.Elements.{filter-append}
 use Rattle.std.proofs.lemmas.List.Filters.{length-filter_more}
 use Rattle.std.proofs.lemmas.Bool.{cases_lt}
 use Rattle.pr_inval.specs.Standing.{Remembered}
+use Rattle.pr_node.specs.Scanning.{IsScanOf, Scanned}
 use Rattle.pr_node.specs.Stored.{NodeMeaning, Stored}
+use Rattle.pr_node.proofs.Scanning.{scan_fresh}
+use Rattle.pr_story.specs.Turns.{standing}
 use Rattle.pr_script.specs.declared.decl.Decl.{Decl}
 use Rattle.pr_script.specs.declared.decl.Decl.TheVariants as decls
 use Rattle.pr_script.specs.declared.kind.Kind.{Kind}
@@ -117,8 +120,11 @@ made_runs ds e good k =
               (subst (λ (i : ℕ). i < count_of kinds.Node ds) (sym (k.routes.at s d (routes_within s lt)).1) (ends_are ds ds good.each s (routes_within s lt)).1);
         };
         sent = λ s d lt. k.sent.at s d (let m : length e.sent.items ≡ length (filter (is_kind kinds.Stream) ds) = k.sent.many in omega arith);
+        scans = λ s d lt. subst (λ (x : Scanned). IsScanOf x (standing (declared_of ds).plan [] s) [])
+            (sym (k.scans.at s d (let m : length e.scans.items ≡ length (filter (is_kind kinds.Stream) ds) = k.scans.many in omega arith))) (scan_fresh (standing (declared_of ds).plan [] s) []);
         many = k.routes.many ∙ sym k.sessions.many;
         many_sent = k.sent.many ∙ sym k.sessions.many;
+        many_scans = k.scans.many ∙ sym k.sessions.many;
       };
       speaks = tt;
       nodes = nodes;

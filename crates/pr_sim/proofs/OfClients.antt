@@ -1,26 +1,14 @@
 -- What an event of a client changes.
-use Rattle.std.proofs.Common.{◌≡◌, ◌⊎◌, ℕ, ◌<◌, ◌≤◌, List, ◌∷◌, inl, inr, refl, sym, ◌∙◌, ap, subst, max, cond, nat_eq, length, get_or, set, arith}
-use Rattle.std.specs.Prelude.{true, false, Bool, IsTrue}
+use Rattle.std.proofs.Common.{◌≡◌, ◌⊎◌, ℕ, ◌<◌, List, ◌∷◌, inl, inr, sym, ◌∙◌, ap, cond, nat_eq, length, get_or, set, arith}
+use Rattle.std.specs.Prelude.{false, Bool}
 use Rattle.std.proofs.lemmas.Bool.{cases_eq}
-use Rattle.std.proofs.lemmas.Bool.Decides.{Decides-eqb, nat_tests}
+use Rattle.std.proofs.lemmas.Bool.Decides.{Decides-eqb}
 use Rattle.std.proofs.lemmas.List.{get_or-set_same, get_or-set_other, length-set}
-use Rattle.pr_stamps.specs.Point.{Point}
-use Rattle.pr_vectors.specs.Vector.{Le, clock_of, join_of, raised, vector_of, zero_vector}
-use Rattle.pr_vectors.proofs.Vectors.{clock_of-vector_of, same_vector}
-use Rattle.pr_inval.specs.Standing.{Standing}
-use Rattle.pr_node.specs.Calls.{IsDone, IsSeen}
-use Rattle.pr_node.specs.declared.answers.done.Done.{Done}
-use Rattle.pr_node.specs.declared.answers.done.Done.TheVariants as done
-use Rattle.pr_node.specs.declared.answers.seen.Seen.{Seen}
-use Rattle.pr_node.specs.declared.answers.seen.Seen.TheVariants as seen
-use Rattle.pr_story.specs.declared.entry.Entry.{Entry}
+use Rattle.pr_vectors.specs.Vector.{zero_vector}
 use Rattle.pr_story.specs.declared.event.Event.{Event}
-use Rattle.pr_story.specs.declared.event.Event.TheVariants.{Wrote, Answered, Behind, Moved}
-use Rattle.pr_story.specs.Clients.{is_of_client, is_with_needs, node_after, seen_after, client_node, client_vector}
-use Rattle.pr_story.specs.Commands.{Command, Gives, ToRead, ToWrite}
-use Rattle.pr_story.specs.History.{Plan, NodeEntry, clock_brought, current_clock, current_vector}
-use Rattle.pr_story.specs.Lawful.{HasCause, IsOwnLawful, IsPlaced, MayCome}
-use Rattle.pr_story.specs.Knowledge.{IsMark, IsNewestKnown, KnowsGone}
+use Rattle.pr_story.specs.declared.event.Event.TheVariants.{Moved}
+use Rattle.pr_story.specs.Clients.{is_of_client, node_after, seen_after, client_node, client_vector}
+use Rattle.pr_story.specs.History.{Plan, NodeEntry}
 use Rattle.pr_sim.specs.Running.{AreClients}
 use Rattle.pr_story.proofs.OfStreams.{not_equal}
 use Rattle.pr_sim.proofs.Quiet.{client_stays}

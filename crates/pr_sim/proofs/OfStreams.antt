@@ -1,5 +1,5 @@
 -- What an event of a stream changes.
-use Rattle.std.proofs.Common.{◌≡◌, ◌⊎◌, ℕ, ◌+◌, ◌<◌, ◌≤◌, List, [], ◌∷◌, ◌++◌, Ok, inl, inr, refl, sym, ◌∙◌, ap, subst, max, cond, nat_eq, length, get_or, arith}
+use Rattle.std.proofs.Common.{◌≡◌, ◌⊎◌, ℕ, ◌+◌, ◌<◌, ◌≤◌, List, [], ◌∷◌, ◌++◌, Ok, inl, inr, refl, sym, ◌∙◌, ap, subst, max, cond, length, get_or, arith, set}
 use Rattle.std.specs.Prelude.{true, false, Bool, IsTrue, Some, None, Option, ◌||◌, ◌&&◌, not}
 use Rattle.std.proofs.lemmas.Bool.{cases_eq}
 use Rattle.std.proofs.lemmas.Bool.Decides.{Decides-eqb}
@@ -19,26 +19,28 @@ use Rattle.pr_story.specs.declared.event.Event.TheVariants.{Attached, Sent, Idle
 use Rattle.pr_story.specs.Clients.{client_vector, is_of_client}
 use Rattle.pr_story.specs.Commands.{Gives, ToAttach, ToCheckpoint, ToSend}
 use Rattle.pr_story.specs.History.{Plan, NodeEntry, Sends, journal}
-use Rattle.pr_story.specs.Lawful.{HasCause, IsPlaced, heard_time, last_time}
+use Rattle.pr_story.specs.Lawful.{HasCause, IsPlaced, last_time}
 use Rattle.pr_story.specs.Laws.{StandsFor}
 use Rattle.pr_story.specs.Scripts.{Detach, Single, attached_after}
-use Rattle.pr_story.specs.Turns.{Attaches, IsAttached, count_after, position_after, sent_after, event_of, is_of_stream, is_timed, is_with_session, stream_time}
+use Rattle.pr_story.specs.Turns.{Attaches, IsAttached, event_of, is_of_stream, stream_time}
 use Rattle.pr_story.proofs.Short.{valid_short}
 use Rattle.pr_inval.specs.Messages.{IsMessage}
+use Rattle.std.proofs.lemmas.List.{length-set}
 use Rattle.pr_sim.specs.Commands.{GivesIt, IsCheckpointOf, IsStepOf, MakesOne}
 use Rattle.pr_merge.specs.Holding.{AreSessions, IsSession}
-use Rattle.pr_sim.specs.Running.{AreClients, AreNodes, AreRoutes, AreSent, IsRunning, Stands}
+use Rattle.pr_sim.specs.Running.{AreClients, AreNodes, AreRoutes, AreSent, IsRunning, Stands, AreScans}
 use Rattle.pr_story.specs.Counts.{Declared}
 use Rattle.pr_story.specs.Places as story
 use Rattle.pr_sim.specs.Places.{HasNoted, OfStream}
 use Rattle.pr_story.specs.Places.{sent_places}
 use Rattle.pr_sim.specs.declared.engine.Engine.{Engine}
 use Rattle.pr_sim.specs.declared.engine.Route.{Route}
-use Rattle.pr_story.proofs.OfStreams.{IsOfStream, attached_is, idle_is, later, other_stream, same_is, sent_is, stale_is, stands_on}
+use Rattle.pr_story.proofs.OfStreams.{IsOfStream, attached_is, idle_is, other_stream, same_is, sent_is, stale_is, stands_on}
 use Rattle.pr_sim.proofs.Running.{attached_put, never, only, runs_more}
-use Rattle.pr_story.proofs.OfStreams.{IsOfNoClient}
 use Rattle.pr_sim.proofs.Quiet.{clients_stay, places_stay, stands_still}
-use Rattle.pr_sim.proofs.Step.{HasMoved, here, length_put, one_step, own_lawful, place_of, put, some_is, there}
+use Rattle.pr_sim.proofs.Step.{HasMoved, here, length_put, one_step, own_lawful, place_of, put, some_is, there, is_node}
+use Rattle.pr_node.specs.Scanning.{Scanned, fresh}
+use Rattle.pr_sim.proofs.Scans.{scans_anew, scans_more}
 
 -- ---- the session that the call was given
 
@@ -86,6 +88,7 @@ pub record IsAtSource (plan : Plan) (h : List NodeEntry) (n s : ℕ) (event : Ev
   pub placed : IsPlaced plan h n event
   pub cause : HasCause h n event
   pub sends : (msg : Msg) → Sends event msg → IsMessage msg
+  pub stays : (t : ℕ) → Attaches event t → ⊥
 
 at_source : (plan : Plan) (h : List NodeEntry) (n s : ℕ) (msg : Msg) → n ≡ (plan.stream s).source → IsAttached h s → msg.stream ≡ s → IsMessage msg → IsAtSource plan h n s (Sent msg)
 at_source plan h n s msg at attached is good = record {
@@ -93,6 +96,7 @@ at_source plan h n s msg at attached is good = record {
   placed = at ∙ ap (λ (t : ℕ). (plan.stream t).source) (sym is);
   cause = subst (λ (t : ℕ). IsAttached h t) (sym is) attached;
   sends = λ m same. subst (λ (y : Msg). IsMessage y) same good;
+  stays = λ t bad. absurd bad;
 }
 
 pub step_at_source : (plan : Plan) (h : List NodeEntry) (n s stream : ℕ) (step : Step) (entry : Entry) → stream ≡ s → n ≡ (plan.stream s).source → IsAttached h s → IsStepSpelled step → IsStep stream step entry
@@ -100,9 +104,9 @@ pub step_at_source : (plan : Plan) (h : List NodeEntry) (n s stream : ℕ) (step
 step_at_source plan h n s stream (steps.Sent msg) entry same at attached good (event, of, kind) =
     subst (λ (v : Event). IsAtSource plan h n s v) (sym event) (at_source plan h n s msg at attached (of ∙ same) good)
 step_at_source plan h n s stream steps.Idle entry same at attached good event =
-    subst (λ (v : Event). IsAtSource plan h n s v) (sym (event ∙ ap (λ (t : ℕ). Idle t) same)) (record { of = idle_is s; placed = at; cause = attached; sends = λ m bad. absurd bad })
+    subst (λ (v : Event). IsAtSource plan h n s v) (sym (event ∙ ap (λ (t : ℕ). Idle t) same)) (record { of = idle_is s; placed = at; cause = attached; sends = λ m bad. absurd bad; stays = λ t bad. absurd bad })
 step_at_source plan h n s stream (steps.Stale cut) entry same at attached good event =
-    subst (λ (v : Event). IsAtSource plan h n s v) (sym (event ∙ ap (λ (t : ℕ). Stale t cut) same)) (record { of = stale_is s cut; placed = at; cause = attached; sends = λ m bad. absurd bad })
+    subst (λ (v : Event). IsAtSource plan h n s v) (sym (event ∙ ap (λ (t : ℕ). Stale t cut) same)) (record { of = stale_is s cut; placed = at; cause = attached; sends = λ m bad. absurd bad; stays = λ t bad. absurd bad })
 
 pub checkpoint_at_source : (plan : Plan) (h : List NodeEntry) (n s stream : ℕ) (msg : Msg) (entry : Entry) → stream ≡ s → n ≡ (plan.stream s).source → IsAttached h s → IsMessage msg → IsCheckpointSent stream msg entry
     → IsAtSource plan h n s entry.event
@@ -162,8 +166,11 @@ module _ (d : Declared) (attached_before : ℕ → Bool) (h : List NodeEntry) (e
       → ((msg : Msg) → Sends a.entry.event msg → IsMessage msg)
       → length f.sent.items ≡ length e.sent.items
       → (place ≡ length (journal h n) → AreSent (record { node = n; entry = a.entry } ∷ h) f.sent.items)
+      → length f.scans.items ≡ length e.scans.items
+      → (IsSession d.plan (record { node = n; entry = a.entry } ∷ h) s new → (means x).journal ≡ journal (record { node = n; entry = a.entry } ∷ h) n
+      → AreScans d.plan h e.scans.items → AreScans d.plan (record { node = n; entry = a.entry } ∷ h) f.scans.items)
       → Grown after R
-  stream_ends R P a attached after same_sessions same_routes same_homes same_seen of on is flag others placed cause gives sends many_sent sent =
+  stream_ends R P a attached after same_sessions same_routes same_homes same_seen of on is flag others placed cause gives sends many_sent sent many_scans scans =
       let i : IsSession d.plan h s old = session_of d.plan h e.sessions.items s old k.sessions known was in
       let made : NodeEntry = record { node = n; entry = a.entry } in
       let st : ℕ → Standing = λ _. (session.means old).standing in
@@ -174,13 +181,14 @@ module _ (d : Declared) (attached_before : ℕ → Bool) (h : List NodeEntry) (e
       own.time ∙ ap (λ (t : ℕ). max (last_time (journal h n)) t + 1) (of.heard st ∙ i.stands.time) in
       let many : length e.nodes.items ≡ length f.nodes.items = sym (ap (λ (nodes : List (Option Stored)). length nodes) moved.nodes ∙ length_put e.nodes.items n x) in
       let many_sessions : length f.sessions.items ≡ length e.sessions.items = ap (λ (xs : List (Option Remembered)). length xs) same_sessions ∙ length_put e.sessions.items s new in
+      let now : IsSession d.plan (made ∷ h) s new = goes_on d.plan made h s old new attached i on of time is in
       let stands : Stands d.plan (made ∷ h) f = record {
         valid = base.valid;
         grammar = base.grammar;
         places_are = base.places_are;
         nodes = base.nodes;
         sessions = subst (λ (xs : List (Option Remembered)). AreSessions d.plan (made ∷ h) xs) (sym same_sessions)
-            (sessions_more d.plan made h e.sessions.items s new k.sessions known of.others (goes_on d.plan made h s old new attached i on of time is));
+            (sessions_more d.plan made h e.sessions.items s new k.sessions known of.others now);
         clients = subst (λ count. AreClients d.plan (made ∷ h) count f.homes.items f.seen.items) many
             (subst (λ xs. AreClients d.plan (made ∷ h) (length e.nodes.items) xs.items f.seen.items) (sym same_homes)
             (subst (λ xs. AreClients d.plan (made ∷ h) (length e.nodes.items) e.homes.items xs.items) (sym same_seen)
@@ -189,6 +197,8 @@ module _ (d : Declared) (attached_before : ℕ → Bool) (h : List NodeEntry) (e
         sent = sent (place_of d.plan h e f k n m x place moved st (client_vector h) caller P a);
         many = ap (λ xs. length xs.items) same_routes ∙ k.many ∙ sym many_sessions;
         many_sent = many_sent ∙ k.many_sent ∙ sym many_sessions;
+        scans = scans now (is_node d.plan h e f k n m x place moved st (client_vector h) caller P a).journal_is k.scans;
+        many_scans = many_scans ∙ k.many_scans ∙ sym many_sessions;
       } in (
         made,
         runs_more d attached_before after h e f made running stands moved.within (never (length e.homes.items) (λ c. is_of_client a.entry.event c) of.no_client)
@@ -200,9 +210,9 @@ module _ (d : Declared) (attached_before : ℕ → Bool) (h : List NodeEntry) (e
 
   -- the stream was attached
   pub attach_ends : (at : List ℕ) (a : Adds (means m) (means x) (λ _. (session.means old).standing) (client_vector h) caller (λ entry. IsAttachedAt old.stream at entry × HasGoneOn (session.means old) (session.means new) true entry))
-      → f.sessions.items ≡ put e.sessions.items s new → f.routes ≡ e.routes → f.homes ≡ e.homes → f.seen ≡ e.seen → f.sent ≡ e.sent
+      → f.sessions.items ≡ put e.sessions.items s new → f.routes ≡ e.routes → f.homes ≡ e.homes → f.seen ≡ e.seen → f.sent ≡ e.sent → f.scans.items ≡ set e.scans.items s fresh
       → n ≡ (d.plan.stream s).destination → MakesOne d (attached_after (Single (ToAttach s)) attached_before) h (GivesIt (ToAttach s)) f (Ok tt)
-  attach_ends at a same_sessions same_routes same_homes same_seen same_sent placed =
+  attach_ends at a same_sessions same_routes same_homes same_seen same_sent anew placed =
       let i : IsSession d.plan h s old = session_of d.plan h e.sessions.items s old k.sessions known was in
       let is : Attached s at ≡ a.entry.event = sym (a.is.0 ∙ ap (λ (t : ℕ). Attached t at) i.stream) in
       stream_ends (GivesIt (ToAttach s) tt) (λ entry. IsAttachedAt old.stream at entry × HasGoneOn (session.means old) (session.means new) true entry) a true
@@ -215,6 +225,8 @@ module _ (d : Declared) (attached_before : ℕ → Bool) (h : List NodeEntry) (e
       (λ at_place t d lt.
       ap (λ xs. (get_or xs.items t d).items) same_sent ∙ k.sent t d (let l : length f.sent.items ≡ length e.sent.items = ap (λ xs. length xs.items) same_sent in omega arith)
       ∙ ap (λ (v : Event). story.sent_after v t (length (journal h n)) (sent_places h t)) is)
+      (ap (λ (xs : List Scanned). length xs) anew ∙ length-set e.scans.items s fresh)
+      (λ i j are. scans_anew d.plan (record { node = n; entry = a.entry }) h e.scans.items f.scans.items s (λ t other to. other (sym (subst (λ (v : Event). Attaches v t) (sym is) to))) anew are)
 
   -- the stream's source made a turn or a checkpoint
   pub source_ends : (R : NodeEntry → Type 0) (Q : Entry → Type 0) (a : Adds (means m) (means x) (λ _. (session.means old).standing) (client_vector h) caller (λ entry. Q entry × HasGoneOn (session.means old) (session.means new) true entry))
@@ -222,8 +234,11 @@ module _ (d : Declared) (attached_before : ℕ → Bool) (h : List NodeEntry) (e
       → IsTrue old.attached → (IsAttached h s → old.stream ≡ s → Q a.entry → IsAtSource d.plan h n s a.entry.event) → (old.stream ≡ s → Q a.entry → R (record { node = n; entry = a.entry }))
       → (roomy : List (Kept ℕ)) → length roomy ≡ length e.sent.items → ((t : ℕ) (d : Kept ℕ) → (get_or roomy t d).items ≡ (get_or e.sent.items t d).items)
       → (old.stream ≡ s → Q a.entry → HasNoted roomy f.sent.items s (story.sent_after a.entry.event s place))
+      → length f.scans.items ≡ length e.scans.items
+      → (IsSession d.plan (record { node = n; entry = a.entry } ∷ h) s new → (means x).journal ≡ journal (record { node = n; entry = a.entry } ∷ h) n
+      → AreScans d.plan (record { node = n; entry = a.entry } ∷ h) e.scans.items → AreScans d.plan (record { node = n; entry = a.entry } ∷ h) f.scans.items)
       → Grown attached_before R
-  source_ends R Q a same_sessions same_routes same_homes same_seen attached what gives roomy many room noted =
+  source_ends R Q a same_sessions same_routes same_homes same_seen attached what gives roomy many room noted many_scans scans =
       let i : IsSession d.plan h s old = session_of d.plan h e.sessions.items s old k.sessions known was in
       let w : IsAtSource d.plan h n s a.entry.event = what (i.attached attached) i.stream a.is.0 in
       let made : HasNoted roomy f.sent.items s (story.sent_after a.entry.event s place) = noted i.stream a.is.0 in
@@ -233,6 +248,7 @@ module _ (d : Declared) (attached_before : ℕ → Bool) (h : List NodeEntry) (e
       (made.many ∙ many)
       (λ at_place. index_more (record { node = n; entry = a.entry }) h roomy f.sent.items s place (index_roomy h e.sent.items roomy many room k.sent)
       (let l : length e.sent.items ≡ length e.sessions.items = k.many_sent in omega arith) w.of.others at_place made)
+      many_scans (λ i j are. scans i j (scans_more d.plan (record { node = n; entry = a.entry }) h e.scans.items w.stays are))
 
 -- the ends of a stream
 pub ends_of : (plan : Plan) (count : ℕ) (routes : List Route) (s : ℕ) (r : Route) → AreRoutes plan count routes → s < length routes → ((d : Route) → r ≡ get_or routes s d)
@@ -262,9 +278,9 @@ sessions_put plan h sessions s new are known now t lt = by (let l = length_put s
 
 pub detach_ends : (d : Declared) (attached : ℕ → Bool) (h : List NodeEntry) (e f : Engine) (s : ℕ) (old new : Remembered) → IsRunning d attached h e → s < length e.sessions.items → get_or e.sessions.items s None ≡ Some old
     → f.sessions.items ≡ put e.sessions.items s new → HasDetached (session.means old) (session.means new)
-    → f.nodes ≡ e.nodes → f.history ≡ e.history → f.homes ≡ e.homes → f.seen ≡ e.seen → f.routes ≡ e.routes → f.sent ≡ e.sent
+    → f.nodes ≡ e.nodes → f.history ≡ e.history → f.homes ≡ e.homes → f.seen ≡ e.seen → f.routes ≡ e.routes → f.sent ≡ e.sent → f.scans ≡ e.scans
     → IsRunning d (attached_after (Detach s) attached) h f
-detach_ends d attached h e f s old new running known was now by same_nodes same_history same_homes same_seen same_routes same_sent =
+detach_ends d attached h e f s old new running known was now by same_nodes same_history same_homes same_seen same_routes same_sent same_scans =
     let k : Stands d.plan h e = running.stands in
     let i : IsSession d.plan h s new = detached d.plan h s old new by (session_of d.plan h e.sessions.items s old k.sessions known was) in
     let many : length f.sessions.items ≡ length e.sessions.items = ap (λ (xs : List (Option Remembered)). length xs) now ∙ length_put e.sessions.items s new in
@@ -282,6 +298,8 @@ detach_ends d attached h e f s old new running known was now by same_nodes same_
         sent = subst (λ xs. AreSent h xs.items) (sym same_sent) k.sent;
         many = ap (λ xs. length xs.items) same_routes ∙ k.many ∙ sym many;
         many_sent = ap (λ xs. length xs.items) same_sent ∙ k.many_sent ∙ sym many;
+        scans = subst (λ xs. AreScans d.plan h xs.items) (sym same_scans) k.scans;
+        many_scans = ap (λ xs. length xs.items) same_scans ∙ k.many_scans ∙ sym many;
       };
       speaks = running.speaks;
       nodes = ap (λ xs. length xs.items) same_nodes ∙ running.nodes;

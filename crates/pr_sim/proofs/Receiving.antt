@@ -24,7 +24,7 @@ use Rattle.pr_story.specs.Turns.{count_after, position_after, sent_after, is_of_
 use Rattle.pr_inval.specs.Messages.{IsMessage}
 use Rattle.pr_sim.specs.Commands.{GivesIt, IsTakingMade, MakesOne}
 use Rattle.pr_merge.specs.Holding.{AreSessions, IsSession}
-use Rattle.pr_sim.specs.Running.{AreClients, AreRoutes, AreSent, IsRunning, Stands}
+use Rattle.pr_sim.specs.Running.{AreClients, AreRoutes, AreSent, IsRunning, Stands, AreScans}
 use Rattle.pr_story.specs.Counts.{Declared}
 use Rattle.pr_sim.specs.Messages.{IsPlace, IsSentAt}
 use Rattle.pr_story.specs.Places.{IsSending, SendsAt}
@@ -37,6 +37,7 @@ use Rattle.pr_story.proofs.OfStreams.{IsOfNoClient}
 use Rattle.pr_sim.proofs.Quiet.{clients_stay, stands_still}
 use Rattle.pr_sim.proofs.Sendings.{none_sent, sendings}
 use Rattle.pr_sim.proofs.Step.{HasMoved, here, length_put, one_step, put, some_is, there}
+use Rattle.pr_sim.proofs.Scans.{attaches_with, scans_more}
 
 -- ---- what stands there
 
@@ -162,13 +163,13 @@ module _ (d : Declared) (attached : ℕ → Bool) (h : List NodeEntry) (e f : En
   k = running.stands
 
   received_ends : (R : NodeEntry → Type 0) (P : Entry → Type 0) (a : Adds (means m) (means x) (standing d.plan h) (client_vector h) caller P)
-      → f.routes ≡ e.routes → f.homes ≡ e.homes → f.seen ≡ e.seen → f.sent ≡ e.sent → length f.sessions.items ≡ length e.sessions.items
+      → f.routes ≡ e.routes → f.homes ≡ e.homes → f.seen ≡ e.seen → f.sent ≡ e.sent → f.scans ≡ e.scans → length f.sessions.items ≡ length e.sessions.items
       → IsReceived a.entry.event → IsPlaced d.plan h n a.entry.event → HasCause h n a.entry.event → R (record { node = n; entry = a.entry })
       → ((t : ℕ) → is_of_stream a.entry.event t ≡ true → t < length e.sessions.items)
       → ((t : ℕ) (y : Remembered) → get_or f.sessions.items t None ≡ Some y → y.attached ≡ attached t)
       → AreSessions d.plan (record { node = n; entry = a.entry } ∷ h) f.sessions.items
       → (made : NodeEntry) × IsRunning d attached (made ∷ h) f × R made
-  received_ends R P a same_routes same_homes same_seen same_sent many_sessions r placed cause gives streams flags sessions =
+  received_ends R P a same_routes same_homes same_seen same_sent same_scans many_sessions r placed cause gives streams flags sessions =
       let base = one_step d.plan h e f k n m x place moved (standing d.plan h) (client_vector h) caller P a
       (λ s on. absurd (r.without s on)) (λ c on. refl) placed cause (λ msg sends. absurd (r.sends msg sends)) in
       let new : NodeEntry = record { node = n; entry = a.entry } in
@@ -187,6 +188,8 @@ module _ (d : Declared) (attached : ℕ → Bool) (h : List NodeEntry) (e f : En
         sent = subst (λ xs. AreSent (new ∷ h) xs.items) (sym same_sent) (index_same new h e.sent.items r k.sent);
         many = ap (λ xs. length xs.items) same_routes ∙ k.many ∙ sym many_sessions;
         many_sent = ap (λ xs. length xs.items) same_sent ∙ k.many_sent ∙ sym many_sessions;
+        scans = subst (λ xs. AreScans d.plan (new ∷ h) xs.items) (sym same_scans) (scans_more d.plan new h e.scans.items (λ t to. r.without t (attaches_with a.entry.event t to)) k.scans);
+        many_scans = ap (λ xs. length xs.items) same_scans ∙ k.many_scans ∙ sym many_sessions;
       } in (
         new,
         runs_more d attached attached h e f new running stands moved.within (never (length e.homes.items) (λ c. is_of_client a.entry.event c) r.no_client) streams
@@ -194,29 +197,29 @@ module _ (d : Declared) (attached : ℕ → Bool) (h : List NodeEntry) (e f : En
         gives,
       )
 
-  pub miss_ends : (s number : ℕ) → AddsAlone (means m) (means x) caller (IsMissed s number) → f.routes ≡ e.routes → f.homes ≡ e.homes → f.seen ≡ e.seen → f.sent ≡ e.sent → f.sessions ≡ e.sessions
+  pub miss_ends : (s number : ℕ) → AddsAlone (means m) (means x) caller (IsMissed s number) → f.routes ≡ e.routes → f.homes ≡ e.homes → f.seen ≡ e.seen → f.sent ≡ e.sent → f.scans ≡ e.scans → f.sessions ≡ e.sessions
       → s < length e.sessions.items → n ≡ (d.plan.stream s).destination → ((msg : Msg) → WasSent h msg → msg.stream ≡ s → msg.number ≡ number → ⊥) → MakesOne d attached h (GivesIt (ToDeliver s number)) f (Ok tt)
-  miss_ends s number adds same_routes same_homes same_seen same_sent same_sessions known placed none =
+  miss_ends s number adds same_routes same_homes same_seen same_sent same_scans same_sessions known placed none =
       let a = adds (standing d.plan h) (client_vector h) in
       let is : Missing s number ≡ a.entry.event = sym a.is in
-      received_ends (GivesIt (ToDeliver s number) tt) (IsMissed s number) a same_routes same_homes same_seen same_sent (ap (λ xs. length xs.items) same_sessions)
+      received_ends (GivesIt (ToDeliver s number) tt) (IsMissed s number) a same_routes same_homes same_seen same_sent same_scans (ap (λ xs. length xs.items) same_sessions)
       (subst (λ (v : Event). IsReceived v) is (missing_is s number)) (subst (λ (v : Event). IsPlaced d.plan h n v) is placed) (subst (λ (v : Event). HasCause h n v) is none) (subst (λ (v : Event). Gives (ToDeliver s number) n v) is (refl, refl))
       (only (length e.sessions.items) s (λ t. is_of_stream a.entry.event t) known (λ t other. ap (λ (v : Event). is_of_stream v t) a.is ∙ not_equal s t (λ q. other (sym q))))
       (λ t y now. running.attached_are t y (subst (λ xs. get_or xs.items t None ≡ Some y) same_sessions now))
       (subst (λ xs. AreSessions d.plan (record { node = n; entry = a.entry } ∷ h) xs.items) (sym same_sessions) (missed d.plan (record { node = n; entry = a.entry }) h s number e.sessions.items a.is k.sessions))
 
-  pub take_ends : (s : ℕ) (old new : Remembered) (msg : Msg) (answer : Taken) → AddsAlone (means m) (means x) caller (IsTaken msg answer) → f.routes ≡ e.routes → f.homes ≡ e.homes → f.seen ≡ e.seen → f.sent ≡ e.sent
+  pub take_ends : (s : ℕ) (old new : Remembered) (msg : Msg) (answer : Taken) → AddsAlone (means m) (means x) caller (IsTaken msg answer) → f.routes ≡ e.routes → f.homes ≡ e.homes → f.seen ≡ e.seen → f.sent ≡ e.sent → f.scans ≡ e.scans
       → s < length e.sessions.items → get_or e.sessions.items s None ≡ Some old → f.sessions.items ≡ put e.sessions.items s new
       → ((entry : Entry) → IsTaken msg answer entry → HasHeard (session.means old) (session.means new) entry.time)
       → n ≡ (d.plan.stream s).destination → WasSent h msg → msg.stream ≡ s → MakesOne d attached h (IsTakingMade msg) f (Ok answer)
-  take_ends s old new msg answer adds same_routes same_homes same_seen same_sent known was same_sessions hears placed sent of =
+  take_ends s old new msg answer adds same_routes same_homes same_seen same_sent same_scans known was same_sessions hears placed sent of =
       let a = adds (standing d.plan h) (client_vector h) in
       let t : IsTakenIn s n msg a.entry = taken_in s n msg answer a.entry of a.is in
       let y = k.sessions s known in
       let i : IsSession d.plan h s old = subst (λ (z : Remembered). IsSession d.plan h s z) (some_is y.0 old (get_or e.sessions.items s None) y.1 was) y.2 in
       let made : NodeEntry = record { node = n; entry = a.entry } in
       let now : HasHeard (session.means old) (session.means new) a.entry.time = hears a.entry a.is in
-      received_ends (IsTakingMade msg answer) (IsTaken msg answer) a same_routes same_homes same_seen same_sent (ap (λ (xs : List (Option Remembered)). length xs) same_sessions ∙ length_put e.sessions.items s new)
+      received_ends (IsTakingMade msg answer) (IsTaken msg answer) a same_routes same_homes same_seen same_sent same_scans (ap (λ (xs : List (Option Remembered)). length xs) same_sessions ∙ length_put e.sessions.items s new)
       t.received (t.placed d.plan h placed) (t.cause h sent) a.is
       (only (length e.sessions.items) s (λ j. is_of_stream a.entry.event j) known t.off)
       (λ j z is. attached_put e.sessions.items s new attached attached known running.attached_are (now.attached ∙ running.attached_are s old was) (λ l other. refl) j z (subst (λ (xs : List (Option Remembered)). get_or xs j None ≡ Some z) same_sessions is))

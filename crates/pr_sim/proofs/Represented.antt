@@ -22,7 +22,7 @@ module _ (d : Declared) (attached : ℕ → Bool) (h : List NodeEntry) (e : Engi
           many_nodes = k.nodes;
           many_streams = k.streams;
           many_clients = k.clients;
-          records_are = record { clients = s.clients; routes = s.routes; sent = s.sent; many = s.many; many_sent = s.many_sent };
+          records_are = record { clients = s.clients; routes = s.routes; sent = s.sent; scans = s.scans; many = s.many; many_sent = s.many_sent; many_scans = s.many_scans };
         },
         record {
           few = s.nodes.few;
@@ -45,8 +45,10 @@ module _ (d : Declared) (attached : ℕ → Bool) (h : List NodeEntry) (e : Engi
       clients = r.records_are.clients;
       routes = r.records_are.routes;
       sent = r.records_are.sent;
+      scans = r.records_are.scans;
       many = r.records_are.many;
       many_sent = r.records_are.many_sent;
+      many_scans = r.records_are.many_scans;
     };
     speaks = r.speaks;
     nodes = r.many_nodes;

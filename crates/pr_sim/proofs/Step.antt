@@ -117,7 +117,7 @@ module _ (plan : Plan) (h : List NodeEntry) (e f : Engine) (k : Stands plan h e)
   was_node : IsNode plan h n m
   was_node = is_node_of plan h e.nodes.items n m k.nodes moved.within moved.was
 
-  is_node : IsNode plan (made ∷ h) n x
+  pub is_node : IsNode plan (made ∷ h) n x
   is_node = record {
     id = a.same_id ∙ was_node.id;
     sets = a.same_sets ∙ was_node.sets;

@@ -7,10 +7,6 @@ use Rattle.pr_flow.specs.Lies.{IsLied}
 use Rattle.pr_flow.specs.declared.stop.Stop.{Stop}
 use Rattle.pr_flow.specs.declared.stop.Stop.TheVariants as stops
 use Rattle.pr_stamps.specs.declared.no_memory.NoMemory.{NoMemory}
-use Rattle.pr_node.specs.declared.answers.done.Done.{Done}
-use Rattle.pr_node.specs.declared.answers.done.Done.TheVariants as done
-use Rattle.pr_node.specs.declared.answers.seen.Seen.{Seen}
-use Rattle.pr_node.specs.declared.answers.seen.Seen.TheVariants as seen
 use Rattle.pr_inval.specs.declared.msg.Msg.{Msg}
 use Rattle.pr_inval.specs.declared.step.Step.{Step}
 use Rattle.pr_inval.specs.declared.step.Step.TheVariants as steps

@@ -1,5 +1,5 @@
 -- A flow in one thread.
-use Rattle.std.specs.Prelude.{ℕ, List, [], ◌∷◌, ◌++◌, ◌≡◌, ◌<◌, ◌≤◌, ◌+◌, ◌^◌, Bool, true, ◌&&◌, IsTrue, Option, None, Some, Result, Ok, Err, reverse}
+use Rattle.std.specs.Prelude.{ℕ, List, [], ◌∷◌, ◌++◌, ◌≡◌, ◌<◌, ◌≤◌, ◌+◌, ◌^◌, Bool, true, ◌&&◌, IsTrue, Option, None, Result, Ok, Err, reverse}
 use Rattle.pr_inval.specs.declared.msg.Msg.{Msg}
 use Rattle.pr_inval.specs.declared.node_fault.NodeFault.{NodeFault}
 use Rattle.pr_flow.specs.declared.flow_end.FlowEnd.{FlowEnd}

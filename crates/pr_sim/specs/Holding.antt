@@ -6,10 +6,10 @@ use Rattle.pr_merge.specs.Holding.{HeldState, Represents}
 use Rattle.pr_node.specs.Stored.{Stored, means}
 use Rattle.pr_story.specs.declared.entry.Entry.{Entry}
 use Rattle.pr_story.specs.declared.event.Event.{Event}
-use Rattle.pr_story.specs.declared.event.Event.TheVariants.{Wrote, Answered, Moved, Sent}
+use Rattle.pr_story.specs.declared.event.Event.TheVariants.{Wrote, Attached, Answered, Moved, Sent}
 use Rattle.pr_story.specs.Counts.{Declared, IsDeclared}
 use Rattle.pr_story.specs.History.{NodeEntry, journal}
-use Rattle.pr_sim.specs.Running.{AreClients, AreRoutes, AreSent, IsRunning}
+use Rattle.pr_sim.specs.Running.{AreClients, AreRoutes, AreScans, AreSent, IsRunning}
 use Rattle.pr_sim.specs.declared.engine.Engine.{Engine}
 
 -- what an engine holds, as those see it who run jobs
@@ -19,13 +19,16 @@ held_of e = record { nodes = e.nodes.items; sessions = e.sessions.items; clients
 abbrev pub journal_of : Stored → List Entry
 journal_of m = (means m).journal
 
--- where clients stand and what they have seen, the ends of streams and the places of their messages are those of the history
+-- where clients stand and what they have seen, the ends of streams and the places of their messages are those of the
+-- history, and the scans are right for their streams
 pub record KeepsRecords (d : Declared) (h : List NodeEntry) (e : Engine) : Type 0 where
   pub clients : AreClients d.plan h (length e.nodes.items) e.homes.items e.seen.items
   pub routes : AreRoutes d.plan (length e.nodes.items) e.routes.items
   pub sent : AreSent h e.sent.items
+  pub scans : AreScans d.plan h e.scans.items
   pub many : length e.routes.items ≡ length e.sessions.items
   pub many_sent : length e.sent.items ≡ length e.sessions.items
+  pub many_scans : length e.scans.items ≡ length e.sessions.items
 
 -- there is room for so many more entries, whichever of them send messages
 pub record HasRoomFor (e : Engine) (n : ℕ) : Type 0 where
@@ -43,6 +46,11 @@ NamesClient n _ = Unit {0}
 abbrev pub IsSentOfStream : ℕ → Event → Type 0
 IsSentOfStream n (Sent msg) = msg.stream < n
 IsSentOfStream n _ = Unit {0}
+
+-- the stream that the event attaches, if it attaches one, is one of so many
+abbrev pub IsAttachedOfStream : ℕ → Event → Type 0
+IsAttachedOfStream n (Attached stream at) = stream < n
+IsAttachedOfStream n _ = Unit {0}
 
 -- the entry, of what is declared, comes next after the history, and stands at this place
 pub record IsNext (d : Declared) (h : List NodeEntry) (x : NodeEntry) (e : Engine) (place : ℕ × ℕ) : Type 0 where

@@ -4,6 +4,7 @@ use Rattle.pr_stamps.specs.Kept.{Kept}
 use Rattle.pr_vectors.specs.Vector.{zero_vector}
 use Rattle.pr_inval.specs.Standing as Standing
 use Rattle.pr_inval.specs.Standing.{IsNewSession, Remembered}
+use Rattle.pr_node.specs.Scanning.{Scanned, fresh}
 use Rattle.pr_node.specs.Stored.{Stored, means}
 use Rattle.pr_sets.specs.Sets.{AreApart}
 use Rattle.pr_script.specs.declared.decl.Decl.{Decl}
@@ -47,6 +48,9 @@ HasSeenNothing c d seen = seen ≡ zero_vector
 abbrev pub HasSentNothing : ℕ → Decl → Kept ℕ → Type 0
 HasSentNothing s d places = places.items ≡ []
 
+abbrev pub HasLookedAtNothing : ℕ → Decl → Scanned → Type 0
+HasLookedAtNothing s d scan = scan ≡ fresh
+
 -- the engine has what these declare, and has done nothing
 pub record IsMadeOf (ds : List Decl) (e : Engine) : Type 0 where
   pub nodes : Each IsNewNode (filter (is_kind kinds.Node) ds) e.nodes.items
@@ -55,6 +59,7 @@ pub record IsMadeOf (ds : List Decl) (e : Engine) : Type 0 where
   pub sessions : Each IsNew (filter (is_kind kinds.Stream) ds) e.sessions.items
   pub routes : Each IsRoute (filter (is_kind kinds.Stream) ds) e.routes.items
   pub sent : Each HasSentNothing (filter (is_kind kinds.Stream) ds) e.sent.items
+  pub scans : Each HasLookedAtNothing (filter (is_kind kinds.Stream) ds) e.scans.items
   pub history : e.history.items ≡ []
 
 -- there is room for what it declares

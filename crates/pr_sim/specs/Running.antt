@@ -5,6 +5,7 @@ use Rattle.pr_stamps.specs.Kept.{Kept}
 use Rattle.pr_vectors.specs.Vector.{zero_vector}
 use Rattle.pr_inval.specs.declared.msg.Msg.{Msg}
 use Rattle.pr_inval.specs.Standing.{Remembered}
+use Rattle.pr_node.specs.Scanning.{IsScanOf, Scanned}
 use Rattle.pr_node.specs.Stored.{Stored, means}
 use Rattle.pr_story.specs.History.{NodeEntry, Plan, WasSent, journal}
 use Rattle.pr_story.specs.Counts.{AreDeclared, Declared}
@@ -12,6 +13,7 @@ use Rattle.pr_story.specs.Lawful.{Valid}
 use Rattle.pr_story.specs.Clients.{client_node, client_vector}
 use Rattle.pr_inval.specs.Messages.{IsMessage}
 use Rattle.pr_story.specs.Places.{places_of, sent_places}
+use Rattle.pr_story.specs.Turns.{standing}
 use Rattle.pr_merge.specs.Holding as holding
 use Rattle.pr_merge.specs.Holding.{AreSessions}
 use Rattle.pr_sim.specs.declared.engine.Engine.{Engine}
@@ -58,6 +60,10 @@ pub record AreRoutes (plan : Plan) (count : ℕ) (routes : List Route) : Type 0 
   pub from : (s : ℕ) (d : Route) → s < length routes → (get_or routes s d).source < count
   pub to : (s : ℕ) (d : Route) → s < length routes → (get_or routes s d).destination < count
 
+-- the scan of each stream is right for it, at its source
+abbrev pub AreScans : Plan → List NodeEntry → List Scanned → Type 0
+AreScans plan h scans = (s : ℕ) (d : Scanned) → s < length scans → IsScanOf (get_or scans s d) (standing plan h s) (journal h (plan.stream s).source)
+
 abbrev pub AreSent : List NodeEntry → List (Kept ℕ) → Type 0
 AreSent h sent = (s : ℕ) (d : Kept ℕ) → s < length sent → (get_or sent s d).items ≡ sent_places h s
 
@@ -71,8 +77,10 @@ pub record Stands (plan : Plan) (h : List NodeEntry) (e : Engine) : Type 0 where
   pub clients : AreClients plan h (length e.nodes.items) e.homes.items e.seen.items
   pub routes : AreRoutes plan (length e.nodes.items) e.routes.items
   pub sent : AreSent h e.sent.items
+  pub scans : AreScans plan h e.scans.items
   pub many : length e.routes.items ≡ length e.sessions.items
   pub many_sent : length e.sent.items ≡ length e.sessions.items
+  pub many_scans : length e.scans.items ≡ length e.sessions.items
 
 -- the numbers below n
 abbrev pub below : ℕ → List ℕ

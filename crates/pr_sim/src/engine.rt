@@ -8,7 +8,7 @@ ghost use Rattle.pr_story.specs.History.{NodeEntry, journal};
 ghost use Rattle.std.specs.Prelude.{◌≡◌, ◌<◌, List, MatchOption, None, Some, ◌≤◌, length, reverse, slice_index_or, ℕ};
 
 use pr_inval::Session;
-use pr_node::Node;
+use pr_node::{Node, Scan};
 use pr_stamps::Roomy;
 use pr_story::{Entry, Journal};
 use pr_vectors::Vector;
@@ -33,6 +33,7 @@ pub struct Engine {
     pub(crate) sessions: Vec<Option<Session>>,
     pub(crate) routes: Vec<Route>,
     pub(crate) sent: Vec<Roomy<usize>>,
+    pub(crate) scans: Vec<Scan>,
     pub(crate) homes: Vec<u32>,
     pub(crate) seen: Vec<Vector>,
     pub(crate) history: Roomy<(u32, usize)>,

@@ -2,8 +2,8 @@
 ghost use Rattle.pr_inval.specs.Standing.{Remembered};
 ghost use Rattle.pr_merge.specs.Holding.{AddsPlaces, HeldState};
 ghost use Rattle.pr_node.specs.Stored.{Stored, means};
-ghost use Rattle.pr_sim.specs.Holding.{HasRoomFor, IsNext, IsSentOfStream, KeepsRecords, NamesClient, RunningRepresents, held_of};
-ghost use Rattle.pr_sim.specs.Running.{AreClients, AreSent};
+ghost use Rattle.pr_sim.specs.Holding.{HasRoomFor, IsAttachedOfStream, IsNext, IsSentOfStream, KeepsRecords, NamesClient, RunningRepresents, held_of};
+ghost use Rattle.pr_sim.specs.Running.{AreClients, AreScans, AreSent};
 ghost use Rattle.pr_stamps.specs.Kept.{Kept};
 ghost use Rattle.pr_story.specs.Clients.{client_node, client_vector};
 ghost use Rattle.pr_story.specs.Counts.{Declared};
@@ -12,10 +12,10 @@ ghost use Rattle.pr_vectors.specs.Vector.{join_of};
 ghost use Rattle.std.specs.Prelude.{◌≡◌, ◌<◌, ◌≤◌, ◌+◌, ◌++◌, [], ◌∷◌, ℕ, List, MatchOption, None, OnOk, Some, get_or, length, reverse, slice_index_or, slice_set};
 
 use crate::engine::{Engine, entry_at, journal_of, node_at};
-use crate::slots::{note, number, room_for, route, vector};
+use crate::slots::{begin, note, number, room_for, route, vector};
 use pr_inval::Session;
 use pr_merge::Held;
-use pr_node::Node;
+use pr_node::{Node, Scan};
 use pr_stamps::{NoMemory, Roomy};
 use pr_story::{Entry, Event, Journal};
 use pr_vectors::Vector;
@@ -97,6 +97,7 @@ impl Engine {
         let entry = entry_at(node_at(&self.nodes, node), place);
         note_client(entry, node, &mut self.homes, &mut self.seen);
         note_sending(entry, place, &mut self.sent);
+        note_attach(entry, &mut self.scans);
         self.history.push((node, place));
     }
 }
@@ -143,6 +144,17 @@ fn note_sending(entry: &Entry, place: usize, sent: &mut Vec<Roomy<usize>>)
 {
     if let Event::Sent { msg } = &entry.event {
         note(sent, msg.stream, place);
+    }
+}
+
+// The scan of the stream that an entry attaches, if it attaches one, begins anew.
+fn note_attach(entry: &Entry, scans: &mut Vec<Scan>)
+    requires { IsAttachedOfStream (length scans.old.items) entry.now.event }
+    ensures many { length scans.new.items ≡ length scans.old.items }
+    ensures scans { (plan : Plan) (node : ℕ) (h : List NodeEntry) → AreScans plan h scans.old.items → AreScans plan (record { node = node; entry = entry.now } ∷ h) scans.new.items }
+{
+    if let Event::Attached { stream, .. } = &entry.event {
+        begin(scans, *stream);
     }
 }
 

@@ -9,7 +9,7 @@ ghost use Rattle.std.specs.Prelude.{◌≡◌, ◌<◌, [], ◌∷◌, ◌++◌,
 
 use crate::engine::{Engine, Route};
 use pr_inval::Session;
-use pr_node::Node;
+use pr_node::{Node, Scan};
 use pr_script::{Decl, Decls};
 use pr_sets::NameSet;
 use pr_stamps::{NoMemory, Roomy, Seq};
@@ -39,6 +39,7 @@ impl Engine {
             sessions: Vec::new(alloc),
             routes: Vec::new(alloc),
             sent: Vec::new(alloc),
+            scans: Vec::new(alloc),
             homes: Vec::new(alloc),
             seen: Vec::new(alloc),
             history: Roomy::new(alloc),
@@ -97,6 +98,7 @@ impl Engine {
         self.sessions.push(Some(session))?;
         self.routes.push(route)?;
         self.sent.push(Roomy::new(self.alloc))?;
+        self.scans.push(Scan::new(self.alloc))?;
         Ok(())
     }
 }

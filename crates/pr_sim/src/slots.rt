@@ -1,4 +1,5 @@
 // Values that are taken out of a list and given back.
+ghost use Rattle.pr_node.specs.Scanning.{fresh};
 ghost use Rattle.pr_sim.specs.declared.engine.Route.{Route};
 ghost use Rattle.pr_stamps.specs.Kept.{Kept};
 ghost use Rattle.pr_story.specs.Turns.{event_of};
@@ -8,6 +9,7 @@ ghost use Rattle.std.specs.Prelude.{◌≡◌, ◌<◌, ◌≤◌, ◌++◌, [],
 
 use crate::engine::Route;
 use pr_inval::Step;
+use pr_node::Scan;
 use pr_stamps::{NoMemory, Roomy};
 use pr_vectors::Vector;
 
@@ -61,6 +63,14 @@ pub fn note_step(sent: &mut Vec<Roomy<usize>>, stream: u32, step: &Step, place: 
     if let Step::Sent(_) = step {
         note(sent, stream, place);
     }
+}
+
+// The stream's scan begins anew.
+pub fn begin(scans: &mut Vec<Scan>, stream: u32)
+    requires { stream < length scans.old.items }
+    ensures { scans.new.items ≡ slice_set scans.old.items stream fresh }
+{
+    scans[stream as usize].begin();
 }
 
 // Takes the value that stands there.

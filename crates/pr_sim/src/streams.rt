@@ -6,7 +6,7 @@ ghost use Rattle.pr_story.specs.Scripts.{Detach, attached_after};
 ghost use Rattle.std.specs.Prelude.{◌<◌, length};
 
 use crate::engine::{CALLER, Engine};
-use crate::slots::{give, note, note_step, room_for, route, take};
+use crate::slots::{begin, give, note, note_step, room_for, route, take};
 use pr_inval::{Msg, NodeFault, Step};
 
 impl Engine {
@@ -25,6 +25,7 @@ impl Engine {
         give(&mut self.sessions, stream, session);
         give(&mut self.nodes, node, at);
         let _ = answer?;
+        begin(&mut self.scans, stream);
         self.history.push((node, place));
         Ok(())
     }
@@ -40,7 +41,7 @@ impl Engine {
         give(&mut self.sessions, stream, session);
     }
 
-    /// Makes a turn of an attached stream, at its source, in the time of the node's `turn`.
+    /// Makes a turn of an attached stream, at its source, in the time of the node's `turn_from`.
     pub fn turn(&mut self, stream: u32) -> Result<Step, NodeFault>
         requires kept { IsKept self.old }
         requires stream { stream < length self.old.sessions.items }
@@ -53,7 +54,8 @@ impl Engine {
         let mut at = take(&mut self.nodes, node);
         let mut session = take(&mut self.sessions, stream);
         let place = at.journal().len();
-        let answer = at.turn(CALLER, &mut session);
+        let scan = &mut self.scans[stream as usize];
+        let answer = at.turn_from(CALLER, &mut session, scan);
         give(&mut self.sessions, stream, session);
         give(&mut self.nodes, node, at);
         let step = answer?;

@@ -5,7 +5,7 @@ use Rattle.pr_node.specs.Stored.{means}
 use Rattle.pr_sets.specs.Sets.{AreApart}
 use Rattle.pr_script.specs.declared.decl.Decl.TheVariants as decls
 use Rattle.pr_script.specs.declared.kind.Kind.TheVariants as kinds
-use Rattle.pr_sim.specs.Making.{HasSeenNothing, HasSentNothing, IsHome, IsNew, IsNewNode, IsRoute}
+use Rattle.pr_sim.specs.Making.{HasLookedAtNothing, HasSeenNothing, HasSentNothing, IsHome, IsNew, IsNewNode, IsRoute}
 use Rattle.pr_sim.proofs.Makings.{each_same, each_then}
 use Rattle.pr_sim.proofs.engine.Engine.add_node.Goals as goal
 
@@ -25,5 +25,6 @@ returns c ds label k =
       sessions = each_same IsNew kinds.Stream ds d _ refl k.sessions;
       routes = each_same IsRoute kinds.Stream ds d _ refl k.routes;
       sent = each_same HasSentNothing kinds.Stream ds d _ refl k.sent;
+      scans = each_same HasLookedAtNothing kinds.Stream ds d _ refl k.scans;
       history = k.history;
     }

@@ -36,10 +36,13 @@ returns-in_err-answer c d attached h k =
     (replaced _ _ _ c.route-node.result.destination c.attach-answer.new.self c.take-at.ensures.out c.give-2.ensures) c.reserve.ensures.items
     (same_journal (means c.take-at.result) (means c.attach-answer.new.self) _ c.in_err-answer.field-0.0 c.in_err-answer.ensures.fault))
 
+pub begin-requires : goal.begin-requires
+begin-requires c = let k = c.requires.kept.3.stands in let l = k.many_scans in let lt = c.requires.stream in omega arith
+
 pub returns : goal.returns
 returns c d attached h k =
     let n = c.route-node.result.destination in
-    let f = record c.args.self.now { nodes = c.give-2.new.slots; sessions = c.give.new.slots; history = c.push.new.self } in
+    let f = record c.args.self.now { nodes = c.give-2.new.slots; sessions = c.give.new.slots; history = c.push.new.self; scans = c.begin.new.scans } in
     let r = ends_of d.plan _ _ c.args.stream c.route-node.result k.stands.routes (let lt = c.requires.stream in let l = k.stands.many in omega arith) c.route-node.ensures in
     attach_ends d attached h c.args.self.now f k n c.take-at.result c.attach-answer.new.self c.len-place.result
     (record {
@@ -49,4 +52,4 @@ returns c d attached h k =
       place_is = c.len-place.ensures ∙ place_len c.journal.result.now.items c.take-at.result.journal.items c.journal.ensures;
       noted = c.push.ensures.items ∙ ap (λ ps. ps ++ (n, c.len-place.result) ∷ []) c.reserve.ensures.items;
     }) 0 c.args.stream c.take-session.result c.attach-answer.new.session c.requires.stream c.take-session.ensures.was
-    c.in_ok-answer.field-0 (c.in_ok-answer.ensures.ok (client_vector h)) (replaced _ _ _ c.args.stream c.attach-answer.new.session c.take-session.ensures.out c.give.ensures) refl refl refl refl r.1
+    c.in_ok-answer.field-0 (c.in_ok-answer.ensures.ok (client_vector h)) (replaced _ _ _ c.args.stream c.attach-answer.new.session c.take-session.ensures.out c.give.ensures) refl refl refl refl c.begin.ensures r.1

@@ -9,13 +9,10 @@ use Rattle.pr_sim.specs.Commands.{Grows}
 use Rattle.pr_sim.specs.Flowing.{IsBegun, IsOnTheWay, TurnsEnd}
 use Rattle.pr_sim.proofs.Faults.{no_memory, stopped_same, this_cause}
 use Rattle.pr_sim.proofs.Flows.{cut_can, cut_is_no_gap, down_is, not_grown, sent_begun}
-use Rattle.pr_sim.specs.Crossing.{Adds, Crosses}
+use Rattle.pr_sim.specs.Crossing.{Crosses}
 use Rattle.pr_flow.specs.declared.flow_end.FlowEnd.{FlowEnd}
 use Rattle.pr_flow.specs.Ending.{IsSoundEnd}
-use Rattle.pr_flow.specs.Flows.{crossed}
 use Rattle.pr_flow.specs.Sound.{AreSoundEvents}
-use Rattle.pr_wire.specs.Spelling.{spelling}
-use Rattle.pr_wire.specs.declared.format.Format.TheVariants.{Two}
 use Rattle.pr_sim.proofs.Carrying.{none_added}
 use Rattle.pr_sim.proofs.Crossing.{arrival_crosses, cut_crosses}
 use Rattle.pr_sim.proofs.Sound.{cut_unsound}

@@ -9,4 +9,4 @@ take-session-requires c = let x = c.requires.kept.3.stands.sessions c.args.strea
 pub returns : goal.returns
 returns c d attached h k =
     detach_ends d attached h c.args.self.now (record c.args.self.now { sessions = c.give.new.slots }) c.args.stream c.take-session.result c.detach.new.self k c.requires.stream c.take-session.ensures.was
-    (replaced _ _ _ c.args.stream c.detach.new.self c.take-session.ensures.out c.give.ensures) c.detach.ensures refl refl refl refl refl refl
+    (replaced _ _ _ c.args.stream c.detach.new.self c.take-session.ensures.out c.give.ensures) c.detach.ensures refl refl refl refl refl refl refl

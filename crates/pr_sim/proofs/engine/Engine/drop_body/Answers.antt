@@ -38,5 +38,5 @@ returns c d attached h k =
       place_is = c.len-place.ensures ∙ place_len c.journal.result.now.items c.take-at.result.journal.items c.journal.ensures;
       noted = c.push.ensures.items ∙ ap (λ ps. ps ++ (c.args.node, c.len-place.result) ∷ []) c.reserve.ensures.items;
     }) 0
-    (record { sessions = refl; routes = refl; sent = refl; homes = refl; seen = refl }) (ToDrop c.args.node c.args.name.now) (Dropped c.args.name.now) _ c.in_ok-answer.ensures.ok (λ entry is. is)
+    (record { sessions = refl; routes = refl; sent = refl; scans = refl; homes = refl; seen = refl }) (ToDrop c.args.node c.args.name.now) (Dropped c.args.name.now) _ c.in_ok-answer.ensures.ok (λ entry is. is)
     (λ s. refl) (λ s. refl) tt tt (refl, refl)

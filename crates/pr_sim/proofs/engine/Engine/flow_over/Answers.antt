@@ -7,7 +7,7 @@ use Rattle.pr_story.specs.Scripts.{events_of}
 use Rattle.pr_sim.specs.Flowing.{IsBegun, LeadsTo, TurnsEnd}
 use Rattle.pr_sim.proofs.Flows.{grows_behind, same_streams, stays_attached, still_grown}
 use Rattle.pr_sim.proofs.Turns.{at_an_end, begins_behind, ends_behind, leads_still, wire_behind, wire_goes_on}
-use Rattle.pr_sim.specs.Crossing.{Adds, Crosses}
+use Rattle.pr_sim.specs.Crossing.{Crosses}
 use Rattle.pr_sim.proofs.Carrying.{none_added}
 use Rattle.pr_sim.proofs.Crossing.{adds_behind, crosses_behind, crosses_done, crosses_on}
 use Rattle.pr_sim.proofs.Sound.{sound_behind}

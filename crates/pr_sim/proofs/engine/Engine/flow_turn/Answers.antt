@@ -7,7 +7,7 @@ use Rattle.pr_story.specs.Scripts.{events_of}
 use Rattle.pr_sim.specs.Flowing.{IsBegun, TurnsEnd}
 use Rattle.pr_sim.proofs.Faults.{this_cause}
 use Rattle.pr_sim.proofs.Flows.{grows_behind, idle_leads, is_attached, none_begun, not_grown, on_the_way, same_streams, sent_begins, sent_ends, sent_step, stale_ends}
-use Rattle.pr_sim.specs.Crossing.{Adds, Crosses}
+use Rattle.pr_sim.specs.Crossing.{Crosses}
 use Rattle.pr_sim.proofs.Carrying.{none_added}
 use Rattle.pr_sim.proofs.Crossing.{adds_behind, idle_crosses, sent_crosses, stale_crosses}
 use Rattle.pr_sim.proofs.Sound.{sound_behind, turn_sound}

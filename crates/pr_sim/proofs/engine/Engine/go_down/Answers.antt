@@ -46,4 +46,4 @@ returns c d attached h k can =
       place_is = c.len-place.ensures ∙ place_len c.journal.result.now.items c.take-at.result.journal.items c.journal.ensures;
       noted = c.push.ensures.items ∙ ap (λ ps. ps ++ (n, c.len-place.result) ∷ []) c.reserve.ensures.items;
     }) 0 c.args.stream c.take-session.result c.down-answer.new.session c.requires.stream c.take-session.ensures.was
-    c.args.cause (c.in_ok-answer.ensures.ok (client_vector h)) (replaced _ _ _ c.args.stream c.down-answer.new.session c.take-session.ensures.out c.give.ensures) refl refl refl refl r.1 can
+    c.args.cause (c.in_ok-answer.ensures.ok (client_vector h)) (replaced _ _ _ c.args.stream c.down-answer.new.session c.take-session.ensures.out c.give.ensures) refl refl refl refl refl r.1 can

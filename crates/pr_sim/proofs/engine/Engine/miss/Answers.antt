@@ -41,4 +41,4 @@ returns c d attached h k none =
       nodes = replaced _ _ _ n c.missing-answer.new.self c.take-at.ensures.out c.give.ensures;
       place_is = c.len-place.ensures ∙ place_len c.journal.result.now.items c.take-at.result.journal.items c.journal.ensures;
       noted = c.push.ensures.items ∙ ap (λ ps. ps ++ (n, c.len-place.result) ∷ []) c.reserve.ensures.items;
-    }) 0 c.args.stream c.args.number c.in_ok-answer.ensures.ok refl refl refl refl refl c.requires.stream r.1 none
+    }) 0 c.args.stream c.args.number c.in_ok-answer.ensures.ok refl refl refl refl refl refl c.requires.stream r.1 none

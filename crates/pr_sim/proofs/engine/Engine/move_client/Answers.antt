@@ -38,4 +38,4 @@ returns c d attached h k =
       place_is = c.len-place.ensures ∙ place_len c.journal.result.now.items c.take-at.result.journal.items c.journal.ensures;
       noted = c.push.ensures.items ∙ ap (λ ps. ps ++ (c.args.node, c.len-place.result) ∷ []) c.reserve.ensures.items;
     }) 0
-    c.args.client refl refl refl refl refl c.requires.client c.in_ok-answer.ensures.ok
+    c.args.client refl refl refl refl refl refl c.requires.client c.in_ok-answer.ensures.ok

@@ -46,6 +46,6 @@ returns c d attached h k =
       place_is = c.len-place.ensures ∙ place_len c.journal.result.now.items c.take-at.result.journal.items c.journal.ensures;
       noted = c.push.ensures.items ∙ ap (λ ps. ps ++ (n, c.len-place.result) ∷ []) c.reserve.ensures.items;
     }) 0
-    (ToRead c.args.client c.args.name.now) c.args.client c.seen_now.result needs _ refl refl refl refl refl c.requires.client c.number-node.ensures (c.vector-seen.ensures zero_vector) c.in_ok-answered.ensures.ok
+    (ToRead c.args.client c.args.name.now) c.args.client c.seen_now.result needs _ refl refl refl refl refl refl c.requires.client c.number-node.ensures (c.vector-seen.ensures zero_vector) c.in_ok-answered.ensures.ok
     (λ entry is. seen_is_of c.args.client c.args.name.now n c.in_ok-answered.answered entry is)
     (λ entry is own follows. c.seen_now.ensures ∙ read_seen_is (standing d.plan h) d.plan n (journal h n) needs c.vector-now.result c.args.client c.args.name.now c.in_ok-answered.answered entry is own (c.vector-now.ensures.value (c.in_ok-answered.ensures.ok (standing d.plan h)).works ∙ ap (λ j. current_vector j) follows))

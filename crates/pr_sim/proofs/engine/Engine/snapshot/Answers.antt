@@ -60,4 +60,4 @@ returns c d attached h k =
     (λ on same q. checkpoint_at_source d.plan h n c.args.stream c.take-session.result.stream c.in_ok-msg.msg (c.in_ok-msg.ensures.ok (client_vector h)).entry same r.0 on c.in_ok-msg.ensures.grammar q)
     (λ same q. checkpoint_is c.args.stream c.take-session.result.stream c.in_ok-msg.msg (c.in_ok-msg.ensures.ok (client_vector h)).entry same c.in_ok-msg.ensures.grammar q)
     c.room_for.new.sent.items c.room_for.ensures.many c.room_for.ensures.items
-    (λ same q. subst (λ v. HasNoted c.room_for.new.sent.items c.note.new.sent.items c.args.stream (story.sent_after v c.args.stream c.len-place.result)) (sym q.0) (noted_of c.args.stream c.in_ok-msg.msg c.len-place.result c.room_for.new.sent.items c.note.new.sent.items (q.1 ∙ same) c.note.ensures))
+    (λ same q. subst (λ v. HasNoted c.room_for.new.sent.items c.note.new.sent.items c.args.stream (story.sent_after v c.args.stream c.len-place.result)) (sym q.0) (noted_of c.args.stream c.in_ok-msg.msg c.len-place.result c.room_for.new.sent.items c.note.new.sent.items (q.1 ∙ same) c.note.ensures)) refl (λ i j are. are)

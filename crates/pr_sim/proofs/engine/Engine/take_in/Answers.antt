@@ -55,7 +55,7 @@ returns c d attached h k sent of =
       nodes = replaced _ _ _ n c.accept-answer.new.self c.take-at.ensures.out c.give.ensures;
       place_is = c.len-place.ensures ∙ place_len c.journal.result.now.items c.take-at.result.journal.items c.journal.ensures;
       noted = c.push.ensures.items ∙ ap (λ ps. ps ++ (n, c.len-place.result) ∷ []) c.reserve.ensures.items;
-    }) 0 c.args.stream c.take-session.result c.heard.new.self c.args.msg c.in_ok-taken.taken c.in_ok-taken.ensures.ok refl refl refl refl
+    }) 0 c.args.stream c.take-session.result c.heard.new.self c.args.msg c.in_ok-taken.taken c.in_ok-taken.ensures.ok refl refl refl refl refl
     c.requires.stream c.take-session.ensures.was (replaced _ _ _ c.args.stream c.heard.new.self c.take-session.ensures.out c.give-2.ensures)
     (λ entry is. subst (λ (t : ℕ). HasHeard (session.means c.take-session.result) (session.means c.heard.new.self) t) (c.time_of.ensures c.args.msg entry is) c.heard.ensures)
     r.1 sent of

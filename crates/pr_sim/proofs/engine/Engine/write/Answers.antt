@@ -47,6 +47,6 @@ returns c d attached h k =
       place_is = c.len-place.ensures ∙ place_len c.journal.result.now.items c.take-at.result.journal.items c.journal.ensures;
       noted = c.push.ensures.items ∙ ap (λ ps. ps ++ (n, c.len-place.result) ∷ []) c.reserve.ensures.items;
     }) 0
-    (ToWrite c.args.client c.args.name.now c.args.body.now false) c.args.client c.seen_then.result needs _ refl refl refl refl refl c.requires.client c.number-node.ensures (c.vector-seen.ensures zero_vector) c.in_ok-done.ensures.ok
+    (ToWrite c.args.client c.args.name.now c.args.body.now false) c.args.client c.seen_then.result needs _ refl refl refl refl refl refl c.requires.client c.number-node.ensures (c.vector-seen.ensures zero_vector) c.in_ok-done.ensures.ok
     (λ entry is. done_is c.args.client c.args.name.now c.args.body.now false n c.in_ok-done.done entry is)
     (λ entry is own follows. c.seen_then.ensures ∙ done_seen (standing d.plan h) d.plan n (journal h n) needs c.vector-now.result c.args.client c.args.name.now c.args.body.now false c.in_ok-done.done entry is own (c.vector-now.ensures.value (c.in_ok-done.ensures.ok (standing d.plan h)).works ∙ ap (λ j. current_vector j) follows))
