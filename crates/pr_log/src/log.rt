@@ -161,8 +161,8 @@ impl Log {
     }
 
     /// The least known write by stamp to one of the names whose point the position does not cover; None exactly where
-    /// there is none. It takes the time of `next_write_counted` twice at most, and where there is none that of two steps
-    /// for each name that a node wrote to. It takes no memory.
+    /// there is none. It takes the time of `next_write_counted` twice at most, and where there is none that of one step
+    /// for each node and two for each name that it wrote to. It takes no memory.
     pub fn next_write(&self, pos: &Vector, sub: &NameSet) -> Option<WriteRec>
         ensures { IsNextOf self.now.known pos.now sub.now result }
     {
