@@ -1,10 +1,13 @@
 -- A flow's job, from its first call to its end.
 use Rattle.std.proofs.Common.{◌≡◌, ◌≢◌, ◌⊎◌, ℕ, ◌-◌, List, [], ◌∷◌, ◌++◌, Result, Ok, Err, inl, inr, refl, sym, ap, ◌∙◌, subst, map, append_assoc, arith}
 use Rattle.std.specs.Prelude.{IsTrue, Option, Some, None, reverse}
+use Rattle.std.specs.List.{AllByRecursion}
 use Rattle.std.proofs.lemmas.List.Elements.{All-contains, All-nil}
 use Rattle.pr_flow.specs.declared.flow_end.FlowEnd.{FlowEnd}
 use Rattle.pr_flow.specs.declared.flow_end.FlowEnd.TheVariants as ends
 use Rattle.pr_flow.specs.Calls.{Accepting, DownMakes, Ending, HasEnded, entry_of}
+use Rattle.pr_flow.specs.Ending.{IsSoundEnd}
+use Rattle.pr_flow.specs.Sound.{IsSoundEvent}
 use Rattle.pr_flow.specs.Flows.{Calls, Ends, EndsAtRest, EndsBehindGap, EndsOnTheWay, Flows, IsOfScript, IsStuck, IsWhole, Makes, Rest, Sides, is_at_destination, is_at_source}
 use Rattle.pr_flow.specs.Flows.{events_of as told_of}
 use Rattle.pr_inval.specs.declared.msg.Msg.{Msg}
@@ -34,6 +37,7 @@ use Rattle.pr_crew.proofs.FlowSteps.{Sofar, dst}
 use Rattle.pr_crew.proofs.FlowWalk.{Walked, no_memory, not_taken, not_turned, same_caller, stays, then_same}
 use Rattle.pr_crew.proofs.Plain.{plain_append}
 use Rattle.pr_crew.proofs.Sofar.{news}
+use Rattle.pr_crew.proofs.SoundEvents.{sound_events, sound_made}
 
 -- ---- events
 
@@ -256,8 +260,8 @@ module _ (plan : Plan) (h : List NodeEntry) (s k : ℕ) where
 
   flow_ends : (turns : ℕ) (a b x y : AtCell) (old new : Remembered) (events : List Event) (end : Result FlowEnd NodeFault) (i : FlowBegins plan h s a b old)
       → Walked plan h s k (record { source = a; destination = b; session = means old }) i.source_is.pass i.destination_is.pass [] (record { source = x; destination = y; session = means new }) end events
-      → IsOfScript s turns events end → (f : FlowEnds plan h s turns k a b x y new end) × (events_of (plain f.made) ≡ events)
-  flow_ends turns a b x y old new events end i w of =
+      → IsOfScript s turns events end → (IsSoundEnd end → AllByRecursion IsSoundEvent events) → (f : FlowEnds plan h s turns k a b x y new end) × (events_of (plain f.made) ≡ events)
+  flow_ends turns a b x y old new events end i w of sound =
       let c = w.sofar.common in (
         record {
           source = w.source;
@@ -280,6 +284,7 @@ module _ (plan : Plan) (h : List NodeEntry) (s k : ℕ) where
             stands = record { stream = c.stream; stands = c.stands; attached = λ on. c.attached };
             lied = w.lied;
             failed = w.failed;
+            sound = λ ends. sound_made w.made (subst (λ (l : List Event). AllByRecursion IsSoundEvent l) (sym w.gives) (sound ends));
           };
           spelled = λ x msg at is. All-contains (λ y. IsSpelled y.made.entry.event) w.made x c.spelled at msg is;
         },
@@ -296,7 +301,8 @@ module _ (plan : Plan) (h : List NodeEntry) (s k : ℕ) where
       let f = subst (λ (j : ℕ). Flows made_through acts made_through acts j turns start last g g1 t t1 end) i.session_is.stream flow in
       let calls = f.2.calls in
       let e = flow_ends turns a b x y old new (told_of f.0) end i
-      (walk calls.0 last f.1 end f.0 start i.source_is.pass i.destination_is.pass [] None turns (begun a b old i on) tt calls.1 calls.2) f.3 in (
+      (walk calls.0 last f.1 end f.0 start i.source_is.pass i.destination_is.pass [] None turns (begun a b old i on) tt calls.1 calls.2) f.3
+      (λ ends. sound_events made_through acts made_through acts s f.1 calls.0 last None turns (told_of f.0) end ends calls.2) in (
         e.0,
         λ whole. subst (λ (events : List Event). (events ≢ Down s Failed ∷ []) × IsTakenFor s events t1) (sym e.1)
             (crossed_over made_through acts made_through acts s f.1 calls.0 last turns (told_of f.0) end t t1 whole empty calls.2 f.2.taken),
@@ -320,7 +326,7 @@ module _ (plan : Plan) (h : List NodeEntry) (s k : ℕ) where
       flow_ends turns a b a y old new events (Ok (ends.Down Failed)) i
       (walked_more start last last p p q d.0 [] d.1 (Ok (ends.Down Failed)) (Down s Failed) [] (made_is (dst plan h s k) d.1 e (Down s Failed) d.2 is) (same_caller p) d.4 refl act.0
       (stays plan h s k last last p d.0 (d.1 ∷ []) (Ok (ends.Down Failed)) d.3 refl tt tt))
-      (([], inr refl), λ whole. inr refl)
+      (([], inr refl), λ whole. inr refl) (λ ends. absurd ends)
 
   -- the destination refused to note it
   pub unconnected_refused : (turns : ℕ) (a b y : AtCell) (old new : Remembered) (fault : NodeFault) → IsTrue old.attached → FlowBegins plan h s a b old
@@ -332,4 +338,4 @@ module _ (plan : Plan) (h : List NodeEntry) (s k : ℕ) where
       let p = i.source_is.pass in
       let q = i.destination_is.pass in
       flow_ends turns a b a y old new [] (Err fault) i (not_taken plan h s k start last p q [] (Ending Failed (means old) (means new)) fault (begun a b old i on) act session refl refl)
-      ((Down s Failed ∷ [], inr refl), λ whole. absurd whole)
+      ((Down s Failed ∷ [], inr refl), λ whole. absurd whole) (λ ends. tt)

@@ -1,6 +1,7 @@
--- Over wires that are sound no job is told a lie, and so no phase.
+-- Over wires that are sound each flow ends as over such a wire: no job is told a lie, and so no phase.
 use Rattle.std.proofs.Common.{◌≡◌, ℕ, suc, List, [], ◌∷◌, inl, inr, refl, sym, subst, length, map}
 use Rattle.std.specs.Prelude.{All, ◌⊎◌, Some, Result, Ok, Err, slice_get}
+use Rattle.pr_flow.specs.Ending.{IsSoundEnd}
 use Rattle.pr_flow.specs.Lies.{IsNoLie}
 use Rattle.pr_flow.specs.declared.flow_end.FlowEnd.{FlowEnd}
 use Rattle.pr_flow.specs.declared.flow_end.FlowEnd.TheVariants as ends
@@ -10,9 +11,11 @@ use Rattle.pr_inval.specs.declared.node_fault.NodeFault.{NodeFault}
 use Rattle.pr_inval.specs.declared.node_fault.NodeFault.TheVariants as faults
 use Rattle.pr_stamps.specs.declared.no_memory.NoMemory.{NoMemory}
 use Rattle.pr_wires.specs.Calls.{WireState}
+use Rattle.pr_crew.specs.declared.task.FlowTask.{FlowTask}
 use Rattle.pr_crew.specs.declared.task.Task.{Task}
 use Rattle.pr_crew.specs.declared.task.Task.TheVariants as tasks
-use Rattle.pr_crew.specs.Tasks.{HasSoundWire, IsHonest, IsHonestEnd, StaysJob, first_of_two, first_stop, stop_of, stop_of_client, stop_of_fault, stop_of_flow}
+use Rattle.pr_crew.specs.Sound.{HaveSoundEnds}
+use Rattle.pr_crew.specs.Tasks.{HasSoundWire, IsHonest, StaysJob, first_of_two, first_stop, stop_of, stop_of_client, stop_of_fault, stop_of_flow}
 use Rattle.pr_crew.proofs.Places.{all_at_place}
 use Rattle.pr_crew.proofs.Ran.{each_was}
 
@@ -24,7 +27,7 @@ client_honest : (end : Result (Unit {0}) NodeFault) → IsNoLie (stop_of_client 
 client_honest (Ok done) = tt
 client_honest (Err fault) = fault_honest fault
 
-flow_honest : (stream : ℕ) (end : Result FlowEnd NodeFault) → IsHonestEnd end → IsNoLie (stop_of_flow stream end)
+flow_honest : (stream : ℕ) (end : Result FlowEnd NodeFault) → IsSoundEnd end → IsNoLie (stop_of_flow stream end)
 flow_honest stream (Ok ends.Done) honest = tt
 flow_honest stream (Ok ends.Stale) honest = tt
 flow_honest stream (Ok (ends.Down cause)) honest = tt
@@ -57,6 +60,18 @@ module _ {W : Type 0} (state : W → WireState) where
       subst (λ (r : Result Stop NoMemory). IsNoLie r) (sym is) (all_honest us (λ k u at.
       let t = each_was ts us k u many at in
       job_honest t.0 u (all_at_place (HasSoundWire state) ts k t.0 sound t.1) (stay k t.0 u t.1 at) (honest k t.0 u t.1 at)))
+
+  flow_sound : (t : Task W) (u : FlowTask W) → HasSoundWire state t → StaysJob t (tasks.Flow u) → IsHonest state t (tasks.Flow u) → IsSoundEnd u.end
+  flow_sound (tasks.Client t) u sound stays honest = absurd stays
+  flow_sound (tasks.Flow t) u sound stays honest = honest sound
+
+  pub sound_ends : (ts us : List (Task W)) → All (HasSoundWire state) ts → length us ≡ length ts
+      → ((k : ℕ) (t u : Task W) → slice_get ts k ≡ Some t → slice_get us k ≡ Some u → StaysJob t u)
+      → ((k : ℕ) (t u : Task W) → slice_get ts k ≡ Some t → slice_get us k ≡ Some u → IsHonest state t u)
+      → HaveSoundEnds us
+  sound_ends ts us sound many stay honest k u at =
+      let t = each_was ts us k (tasks.Flow u) many at in
+      flow_sound t.0 u (all_at_place (HasSoundWire state) ts k t.0 sound t.1) (stay k t.0 (tasks.Flow u) t.1 at) (honest k t.0 (tasks.Flow u) t.1 at)
 
 -- want of memory is no lie
 pub still_honest : (stop result : Result Stop NoMemory) → (result ≡ stop) ⊎ (result ≡ Err (record {})) → IsNoLie stop → IsNoLie result

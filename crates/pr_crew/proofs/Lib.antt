@@ -14,6 +14,7 @@ pub mod FlowWalk
 pub mod Joined
 pub mod FlowEvents
 pub mod Crossed
+pub mod SoundEvents
 pub mod FlowEnding
 pub mod Ran
 pub mod NewJobs
@@ -47,4 +48,5 @@ pub mod Outcome
 pub mod Represented
 pub mod Stopped
 pub mod Carried
+pub mod Sounds
 pub mod Phased

@@ -3,12 +3,11 @@ use Rattle.std.proofs.Common.{◌≡◌, ℕ, List, [], ◌∷◌, Result, inl, 
 use denote.Ref.{MutBor}
 use denote.Param.Members.{Shared}
 use Rattle.std.specs.Fork.{ChangesEach}
-use Rattle.std.specs.Prelude.{IfSome, IsTrue, Option, Some, None, Ok, Err, length, get_or, slice_get, slice_index_or, ◌<◌}
+use Rattle.std.specs.Prelude.{IfSome, IsTrue, Option, Some, None, length, get_or, slice_get, slice_index_or, ◌<◌}
 use Rattle.std.proofs.lemmas.List.Elements.{All-nil}
 use Rattle.std.proofs.lemmas.Option.{get_or_from_slice_get, slice_get-get_or, slice_get_cases}
 use Rattle.pr_cell.specs.Passes.{IsPassOf, held}
 use Rattle.pr_flow.specs.declared.flow_end.FlowEnd.{FlowEnd}
-use Rattle.pr_flow.specs.declared.flow_end.FlowEnd.TheVariants as ends
 use Rattle.pr_flow.specs.Ending.{IsSoundEnd}
 use Rattle.pr_inval.specs.declared.node_fault.NodeFault.{NodeFault}
 use Rattle.pr_inval.specs.Standing.{Remembered}
@@ -31,7 +30,7 @@ use Rattle.pr_crew.specs.Flowing.{BeginsAt, FlowBegins, FlowEnds, FlowEndsOver}
 use Rattle.pr_crew.specs.Jobs.{ClientDone}
 use Rattle.pr_crew.specs.Making.{HasSeen, IsCellOf, IsSameCaller, NodeCell, NodePass}
 use Rattle.pr_crew.specs.Stories.{stories}
-use Rattle.pr_crew.specs.Tasks.{HasRun, IsDoneClient, IsDoneFlow, IsFresh, IsHonestEnd, IsReadyClient, IsReadyFlow, IsSamePass, IsSameStream, IsUsed, count_of}
+use Rattle.pr_crew.specs.Tasks.{HasRun, IsDoneClient, IsDoneFlow, IsFresh, IsReadyClient, IsReadyFlow, IsSamePass, IsSameStream, IsSoundWire, IsUsed, count_of}
 use Rattle.pr_crew.proofs.FlowEnding.{none_made}
 
 cell_here : (cells : List NodeCell) (n : ℕ) (here cell : NodeCell) → slice_get cells n ≡ Some cell → here ≡ slice_index_or cells n here → here ≡ cell
@@ -39,13 +38,6 @@ cell_here cells n here cell at is = is ∙ get_or_from_slice_get cells n cell he
 
 same_some : {X : Type 0} (o : Option X) (x y : X) → o ≡ Some x → o ≡ Some y → x ≡ y
 same_some o x y has is = let both : Some x ≡ Some y = sym has ∙ is in cc
-
-pub no_lie : (end : Result FlowEnd NodeFault) → IsSoundEnd end → IsHonestEnd end
-no_lie (Ok ends.Done) sound = tt
-no_lie (Ok ends.Stale) sound = tt
-no_lie (Ok (ends.Down cause)) sound = tt
-no_lie (Ok (ends.Lied number sent got)) sound = sound
-no_lie (Err fault) sound = tt
 
 same_pass : (was now : Option NodePass) (p q : NodePass) → was ≡ Some p → now ≡ Some q → IsSameCaller p q → IsSamePass was now
 same_pass was now p q is has same = subst (λ (o : Option NodePass × Option NodePass). IsSamePass o.0 o.1) (λ i. (sym is i, sym has i)) same.number
@@ -171,7 +163,7 @@ module _ {W : Type 0} (state : W → WireState) (cells : List NodeCell) (inside 
 
   pub flow_has_run : (x y : FlowTask W) → t ≡ tasks.Flow x → ((plan : Plan) (h : List NodeEntry) (lines : List Numbered) (k : ℕ) → IsReadyFlow plan h cells {W = W} state x → (xs : List New) × IsDoneFlow plan h lines cells k {W = W} y xs × FlowCrosses state y xs)
       → y.work ≡ x.work → IsSamePass x.source y.source × IsSamePass x.destination y.destination → IsSameStream x.session y.session → count_of y.wire ≡ count_of x.wire
-      → (IfSome x.wire (λ w. IsTrue (state w).sound) → IsHonestEnd y.end) → HasRun state cells inside t (tasks.Flow y)
+      → (IsSoundWire state x.wire → IsSoundEnd y.end) → HasRun state cells inside t (tasks.Flow y)
   flow_has_run x y is done work passes session wire sound =
       subst (λ (z : Task W). HasRun state cells inside z (tasks.Flow y)) (sym is) (record { done = λ plan h k r. done plan h inside k r; stays = (work, passes.0, passes.1, session, wire); honest = sound })
 

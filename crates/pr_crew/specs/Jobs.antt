@@ -3,8 +3,10 @@ use Rattle.std.specs.Prelude.{ℕ, List, [], ◌∷◌, ◌++◌, ◌≡◌, ◌
 use Rattle.std.specs.List.Sorted.{IsStrictlyIncreasing}
 use Rattle.pr_flow.specs.declared.flow_end.FlowEnd.{FlowEnd}
 use Rattle.pr_flow.specs.declared.flow_end.FlowEnd.TheVariants as ends
+use Rattle.pr_flow.specs.Ending.{IsSoundEnd}
 use Rattle.pr_flow.specs.Flows.{is_at_source, is_at_destination}
 use Rattle.pr_flow.specs.Lies.{IsLied}
+use Rattle.pr_flow.specs.Sound.{IsSoundEvent}
 use Rattle.pr_inval.specs.declared.node_fault.NodeFault.{NodeFault}
 use Rattle.pr_inval.specs.Standing.{Remembered}
 use Rattle.pr_merge.specs.Holding.{IsSession}
@@ -109,3 +111,4 @@ module _ (plan : Plan) (h : List NodeEntry) where
     pub stands : IsSession plan (plain (reverse xs) ++ h) s session
     pub lied : FlowLied s xs end
     pub failed : FlowFailed s p q xs end
+    pub sound : IsSoundEnd end → All (λ x. IsSoundEvent x.made.entry.event) xs

@@ -16,3 +16,4 @@ pub mod Rooms
 pub mod Leaving
 pub mod Crossing
 pub mod Carrying
+pub mod Sound

@@ -4,6 +4,7 @@ use Rattle.std.specs.List.{flat_map}
 use Rattle.pr_cell.specs.Passes.{IsPassOf, held}
 use Rattle.pr_flow.specs.declared.flow_end.FlowEnd.{FlowEnd}
 use Rattle.pr_flow.specs.declared.flow_end.FlowEnd.TheVariants as ends
+use Rattle.pr_flow.specs.Ending.{IsSoundEnd}
 use Rattle.pr_flow.specs.declared.stop.Stop.{Stop}
 use Rattle.pr_flow.specs.declared.stop.Stop.TheVariants as stops
 use Rattle.pr_inval.specs.declared.msg.Msg.{Msg}
@@ -161,19 +162,19 @@ StaysJob t u = ⊥
 
 -- ---- a job's run
 
--- the wire of a flow's job, if there is one, is sound
+-- there is a wire, and it is sound
+abbrev pub IsSoundWire : {W : Type 0} → (W → WireState) → Option W → Type 0
+IsSoundWire state None = ⊥
+IsSoundWire state (Some w) = IsTrue (state w).sound
+
+-- a flow's job has a wire that is sound
 abbrev pub HasSoundWire : {W : Type 0} → (W → WireState) → Task W → Type 0
 HasSoundWire state (tasks.Client t) = Unit {0}
-HasSoundWire state (tasks.Flow t) = IfSome t.wire (λ w. IsTrue (state w).sound)
+HasSoundWire state (tasks.Flow t) = IsSoundWire state t.wire
 
--- the flow took no other bytes than were put
-abbrev pub IsHonestEnd : Result FlowEnd NodeFault → Type 0
-IsHonestEnd (Ok (ends.Lied number sent got)) = ⊥
-IsHonestEnd end = Unit {0}
-
--- where the wire of a flow's job was sound, the flow took no other bytes than were put
+-- where a flow's job had a wire that is sound, the flow ended as over such a wire
 abbrev pub IsHonest : {W : Type 0} → (W → WireState) → Task W → Task W → Type 0
-IsHonest state (tasks.Flow t) (tasks.Flow u) = IfSome t.wire (λ w. IsTrue (state w).sound) → IsHonestEnd u.end
+IsHonest state (tasks.Flow t) (tasks.Flow u) = IsSoundWire state t.wire → IsSoundEnd u.end
 IsHonest state t u = Unit {0}
 
 module _ {W : Type 0} (state : W → WireState) (cells : List NodeCell) where

@@ -6,6 +6,7 @@ ghost use Rattle.pr_crew.specs.Leaving.{HaveRun};
 ghost use Rattle.pr_crew.specs.Phases.{AllWork, AreDistinct, CanRunPhase, IsOut, IsPlanned, LeavesPhase, RepresentsNodes, SameAttached};
 ghost use Rattle.pr_crew.specs.Rooms.{HasRoomFor, KnowsOpening, total_at};
 ghost use Rattle.pr_merge.specs.Holding.{HeldState};
+ghost use Rattle.pr_crew.specs.Sound.{AddsSound, HaveSoundEnds};
 ghost use Rattle.pr_crew.specs.Starting.{CanStart};
 ghost use Rattle.pr_crew.specs.Tasks.{IsDone, IsHonest, IsReady, StaysJob};
 ghost use Rattle.pr_crew.specs.declared.task.Task.{Task};
@@ -64,6 +65,7 @@ pub fn phase<R: Threads + Wait + Sync, H: Held<Node = Node>, W: Wires, G: Gate>(
     ensures sound { W.sound wires.new ≡ W.sound wires.old }
     ensures no_lie { ((k : ℕ) → IsTrue (W.sound wires.old k)) → IsNoLie result }
     ensures carried { (d : Declared) (h : List NodeEntry) → RepresentsNodes (H.records held.old) d h (H.state held.old) → PhaseCarries (H.records held.new) d h inside.now (H.state held.new) (W.carried wires.old) (W.carried wires.new) result }
+    ensures sound_events { (d : Declared) (h : List NodeEntry) → RepresentsNodes (H.records held.old) d h (H.state held.old) → ((k : ℕ) → IsTrue (W.sound wires.old k)) → AddsSound (H.records held.new) d h (H.state held.new) }
 {
     let owners = owners(alloc, inside)?;
     let works = plan(alloc, held, owners.as_slice(), inside)?;
@@ -109,6 +111,7 @@ fn over_cells<R: Threads + Wait + Sync, H: Held<Node = Node>, W: Wires, G: Gate>
     ensures sound { W.sound wires.new ≡ W.sound wires.old }
     ensures no_lie { ((k : ℕ) → IsTrue (W.sound wires.old k)) → IsNoLie result }
     ensures carried { (d : Declared) (h : List NodeEntry) → IsPlanned (H.records held.old) d h inside.now works.now count (H.state held.old) → PhaseCarries (H.records held.new) d h inside.now (H.state held.new) (W.carried wires.old) (W.carried wires.new) result }
+    ensures sound_events { (d : Declared) (h : List NodeEntry) → IsPlanned (H.records held.old) d h inside.now works.now count (H.state held.old) → ((k : ℕ) → IsTrue (W.sound wires.old k)) → AddsSound (H.records held.new) d h (H.state held.new) }
 {
     let sites = Sites::open(alloc, held, count, works.len() as u32 + 1)?;
     match Vec::with_capacity(alloc, works.len()) {
@@ -151,6 +154,7 @@ fn in_room<R: Threads + Wait + Sync, H: Held<Node = Node>, W: Wires, G: Gate>(
     ensures sound { W.sound wires.new ≡ W.sound wires.old }
     ensures no_lie { ((k : ℕ) → IsTrue (W.sound wires.old k)) → IsNoLie result }
     ensures carried { (d : Declared) (h : List NodeEntry) (was : HeldState Stored) → IsOut (H.records held.old) d h inside.now works.now sites was (H.state held.old) → KnowsOpening h (length sites.cells.items) room → PhaseCarries (H.records held.new) d h inside.now (H.state held.new) (W.carried wires.old) (W.carried wires.new) result }
+    ensures sound_events { (d : Declared) (h : List NodeEntry) (was : HeldState Stored) → IsOut (H.records held.old) d h inside.now works.now sites was (H.state held.old) → KnowsOpening h (length sites.cells.items) room → ((k : ℕ) → IsTrue (W.sound wires.old k)) → AddsSound (H.records held.new) d h (H.state held.new) }
 {
     let stop = run(rt, alloc, held, wires, gate, works, inside, sites, tasks);
     room.append(held);
@@ -176,7 +180,7 @@ fn run<R: Threads + Wait + Sync, H: Held<Node = Node>, W: Wires, G: Gate>(
     requires empty { tasks.items ≡ [] }
     requires room { length works.now ≤ vec_capacity tasks }
     requires few { W.made wires.old + length works.now ≤ 2 ^ 40 }
-    ensures ran { (plan : Plan) (h : List NodeEntry) (owners : List Owner) (streams : ℕ → ℕ) → CanStart plan h (length sites.cells.items) inside.now owners streams (H.state held.old) sites works.now → (r : HaveRun W.Wire W.Wire.state plan h inside.now (length sites.cells.items) streams (H.state held.old) (H.state held.new) works.now result) × AreClosed W.Wire.state r.jobs (W.carried wires.old) (W.carried wires.new) }
+    ensures ran { (plan : Plan) (h : List NodeEntry) (owners : List Owner) (streams : ℕ → ℕ) → CanStart plan h (length sites.cells.items) inside.now owners streams (H.state held.old) sites works.now → (r : HaveRun W.Wire W.Wire.state plan h inside.now (length sites.cells.items) streams (H.state held.old) (H.state held.new) works.now result) × AreClosed W.Wire.state r.jobs (W.carried wires.old) (W.carried wires.new) × (((k : ℕ) → IsTrue (W.sound wires.old k)) → HaveSoundEnds r.jobs) }
     ensures records { (d : Declared) (h : List NodeEntry) → H.records held.old d h → H.records held.new d h }
     ensures places { (n : ℕ) → H.has_room held.old n → H.has_room held.new n }
     ensures made { W.made wires.new ≤ W.made wires.old + length works.now }

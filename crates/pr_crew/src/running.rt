@@ -3,9 +3,10 @@ ghost use Rattle.pr_crew.specs.Acting.{AtCell};
 ghost use Rattle.pr_crew.specs.Asking.{IsShort};
 ghost use Rattle.pr_crew.specs.Crossing.{FlowCrosses, JobCrosses};
 ghost use Rattle.pr_crew.specs.Flowing.{FlowBegins, FlowEnds, FlowEndsOver};
-ghost use Rattle.pr_crew.specs.Tasks.{CanRun, HasRun, IsDone, IsDoneClient, IsDoneFlow, IsHonest, IsHonestEnd, IsReady, IsReadyClient, IsReadyFlow, IsSamePass, IsSameStream, StaysJob, count_of};
+ghost use Rattle.pr_crew.specs.Tasks.{CanRun, HasRun, IsDone, IsDoneClient, IsDoneFlow, IsHonest, IsReady, IsReadyClient, IsReadyFlow, IsSamePass, IsSameStream, IsSoundWire, StaysJob, count_of};
 ghost use Rattle.pr_crew.specs.declared.task.Task.{Task};
 ghost use Rattle.pr_flow.specs.Calls.{IsKept};
+ghost use Rattle.pr_flow.specs.Ending.{IsSoundEnd};
 ghost use Rattle.pr_flow.specs.Flows.{IsWhole};
 ghost use Rattle.pr_script.specs.Steps.{Numbered};
 ghost use Rattle.pr_inval.specs.Standing.{means};
@@ -120,7 +121,7 @@ fn run_flow<R: Wait, G: Gate, W: Wire>(
     ensures passes { IsSamePass task.old.source task.new.source × IsSamePass task.old.destination task.new.destination }
     ensures session { IsSameStream task.old.session task.new.session }
     ensures wire { count_of task.new.wire ≡ count_of task.old.wire }
-    ensures sound { IfSome task.old.wire (λ w. IsTrue (W.state w).sound) → IsHonestEnd task.new.end }
+    ensures sound { IsSoundWire W.state task.old.wire → IsSoundEnd task.new.end }
 {
     let (Some(from), Some(to), Some(mut session)) = (
         task.source.take(),
@@ -164,7 +165,7 @@ pub(crate) fn drive<R: Wait, G: Gate, W: Wire>(
     ensures done { (plan : Plan) (h : List NodeEntry) (s k : ℕ) → FlowBegins plan h s source.old destination.old session.old → FlowEndsOver W.state wire.new plan h s work.now.turns k source.old destination.old source.new destination.new session.new result }
     ensures session { IsKept (means session.old) (means session.new) }
     ensures wire { count_of wire.new ≡ count_of wire.old }
-    ensures sound { IfSome wire.old (λ w. IsTrue (W.state w).sound) → IsHonestEnd result }
+    ensures sound { IsSoundWire W.state wire.old → IsSoundEnd result }
 {
     match wire {
         Some(wire) => flow_job(
@@ -193,7 +194,6 @@ fn unconnected<R: Wait, G: Gate>(
     requires attached { IsTrue (means session.old).attached }
     ensures done { (plan : Plan) (h : List NodeEntry) (s turns k : ℕ) (source : AtCell) → FlowBegins plan h s source destination.old session.old → (f : FlowEnds plan h s turns k source destination.old source destination.new session.new result) × (IsWhole result → events_of (plain f.made) ≡ Down s Failed ∷ []) }
     ensures session { IsKept (means session.old) (means session.new) }
-    ensures sound { IsHonestEnd result }
 {
     gate.reached(rt, line);
     destination.down(session, Cause::Failed)?;

@@ -1,7 +1,7 @@
 // Jobs get what they work with before they run, and give it back afterwards.
 ghost use Rattle.pr_crew.specs.Crossing.{AreClosed, ClosesJob, IsClosed};
 ghost use Rattle.pr_crew.specs.Starting.{CanEnd, CanEndOne, CanStart, CanStartOne, EndsOne, HaveEnded, HaveStarted, StartsOne};
-ghost use Rattle.pr_crew.specs.Tasks.{HasSoundWire, count_of, first_of_two, first_stop, stop_of, stop_of_client, stop_of_fault, stop_of_flow, wires_of};
+ghost use Rattle.pr_crew.specs.Tasks.{HasSoundWire, IsSoundWire, count_of, first_of_two, first_stop, stop_of, stop_of_client, stop_of_fault, stop_of_flow, wires_of};
 ghost use Rattle.pr_inval.specs.Standing.{Remembered};
 ghost use Rattle.pr_script.specs.Steps.{Numbered};
 ghost use Rattle.pr_script.specs.declared.owner.Owner.{Owner};
@@ -105,7 +105,7 @@ fn connect<W: Wires>(wires: &mut W, from: u32, to: u32) -> Option<W::Wire>
     ensures faults { W.faults wires.old ≤ W.faults wires.new }
     ensures sound { W.sound wires.new ≡ W.sound wires.old }
     ensures carried { W.carried wires.new ≡ W.carried wires.old }
-    ensures sound_wire { IsTrue (W.sound wires.old (W.made wires.old + 1)) → IfSome result (λ w. IsTrue (W.Wire.state w).sound) }
+    ensures sound_wire { IsTrue (W.sound wires.old (W.made wires.old + 1)) → IsSoundWire W.Wire.state result }
 {
     match wires.connect(from, to) {
         Ok(wire) => Some(wire),

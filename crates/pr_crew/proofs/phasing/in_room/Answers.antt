@@ -4,7 +4,7 @@ use Rattle.pr_text.specs.Steps.{stream_job}
 use Rattle.pr_crew.specs.Phases.{SameAttached}
 use Rattle.pr_crew.proofs.Honest.{still_honest}
 use Rattle.pr_crew.proofs.Outcome.{can_append, jobs}
-use Rattle.pr_crew.proofs.Phased.{all_attached, all_here, all_represented, all_short, can_start, carries, leaves, new_of}
+use Rattle.pr_crew.proofs.Phased.{adds_sound, all_attached, all_here, all_represented, all_short, can_start, carries, leaves, new_of}
 use Rattle.pr_crew.proofs.phasing.in_room.Goals as goal
 
 pub run-stop-requires-clause-can : goal.run-stop-requires-clause-can
@@ -60,3 +60,7 @@ returns-clause-no_lie g c all = still_honest c.run-stop.result c.working.result 
 pub returns-clause-carried : goal.returns-clause-carried
 returns-clause-carried g c d h was o opening =
     carries (λ d h. g.H.Held.records c.args.held.now d h) d h c.args.inside.now c.args.works.now c.args.sites was (g.H.Held.state c.args.held.now) o (λ d h. g.H.Held.records c.append.new.held d h) (g.H.Held.state c.run-stop.new.held) (g.H.Held.state c.append.new.held) c.run-stop.result (c.run-stop.ensures.ran d.plan h (owners_of c.args.inside.now) (stream_job c.args.inside.now) (can_start (λ d h. g.H.Held.records c.args.held.now d h) d h c.args.inside.now c.args.works.now c.args.sites was (g.H.Held.state c.args.held.now) o)).0 (c.append.ensures.appended d h c.args.works.now (length c.args.sites.cells.items) (c.run-stop.ensures.ran d.plan h (owners_of c.args.inside.now) (stream_job c.args.inside.now) (can_start (λ d h. g.H.Held.records c.args.held.now d h) d h c.args.inside.now c.args.works.now c.args.sites was (g.H.Held.state c.args.held.now) o)).0.nodes (jobs (λ d h. g.H.Held.records c.args.held.now d h) d h c.args.inside.now c.args.works.now (length c.args.sites.cells.items) was (g.H.Held.state c.args.held.now) (g.H.Held.state c.run-stop.new.held) c.run-stop.result o.planned o.beside (c.run-stop.ensures.ran d.plan h (owners_of c.args.inside.now) (stream_job c.args.inside.now) (can_start (λ d h. g.H.Held.records c.args.held.now d h) d h c.args.inside.now c.args.works.now c.args.sites was (g.H.Held.state c.args.held.now) o)).0) (can_append (λ d h. g.H.Held.records c.args.held.now d h) d h c.args.inside.now c.args.works.now (length c.args.sites.cells.items) was (g.H.Held.state c.args.held.now) (g.H.Held.state c.run-stop.new.held) c.run-stop.result o.planned o.beside (c.run-stop.ensures.ran d.plan h (owners_of c.args.inside.now) (stream_job c.args.inside.now) (can_start (λ d h. g.H.Held.records c.args.held.now d h) d h c.args.inside.now c.args.works.now c.args.sites was (g.H.Held.state c.args.held.now) o)).0) c.requires.fits opening (c.run-stop.ensures.records d h o.planned.represents.records_are)) (λ d h. g.H.Held.records c.working.new.held d h) c.working.result (g.H.Held.state c.working.new.held) c.working.ensures.state (λ e keeps. c.working.ensures.records d e keeps) c.working.ensures.stop (g.W.Wires.carried c.args.wires.now) (g.W.Wires.carried c.run-stop.new.wires) (c.run-stop.ensures.ran d.plan h (owners_of c.args.inside.now) (stream_job c.args.inside.now) (can_start (λ d h. g.H.Held.records c.args.held.now d h) d h c.args.inside.now c.args.works.now c.args.sites was (g.H.Held.state c.args.held.now) o)).1
+
+pub returns-clause-sound_events : goal.returns-clause-sound_events
+returns-clause-sound_events g c d h was o opening all =
+    adds_sound (λ d h. g.H.Held.records c.args.held.now d h) d h c.args.inside.now c.args.works.now c.args.sites was (g.H.Held.state c.args.held.now) o (λ d h. g.H.Held.records c.append.new.held d h) (g.H.Held.state c.run-stop.new.held) (g.H.Held.state c.append.new.held) c.run-stop.result (c.run-stop.ensures.ran d.plan h (owners_of c.args.inside.now) (stream_job c.args.inside.now) (can_start (λ d h. g.H.Held.records c.args.held.now d h) d h c.args.inside.now c.args.works.now c.args.sites was (g.H.Held.state c.args.held.now) o)).0 (c.append.ensures.appended d h c.args.works.now (length c.args.sites.cells.items) (c.run-stop.ensures.ran d.plan h (owners_of c.args.inside.now) (stream_job c.args.inside.now) (can_start (λ d h. g.H.Held.records c.args.held.now d h) d h c.args.inside.now c.args.works.now c.args.sites was (g.H.Held.state c.args.held.now) o)).0.nodes (jobs (λ d h. g.H.Held.records c.args.held.now d h) d h c.args.inside.now c.args.works.now (length c.args.sites.cells.items) was (g.H.Held.state c.args.held.now) (g.H.Held.state c.run-stop.new.held) c.run-stop.result o.planned o.beside (c.run-stop.ensures.ran d.plan h (owners_of c.args.inside.now) (stream_job c.args.inside.now) (can_start (λ d h. g.H.Held.records c.args.held.now d h) d h c.args.inside.now c.args.works.now c.args.sites was (g.H.Held.state c.args.held.now) o)).0) (can_append (λ d h. g.H.Held.records c.args.held.now d h) d h c.args.inside.now c.args.works.now (length c.args.sites.cells.items) was (g.H.Held.state c.args.held.now) (g.H.Held.state c.run-stop.new.held) c.run-stop.result o.planned o.beside (c.run-stop.ensures.ran d.plan h (owners_of c.args.inside.now) (stream_job c.args.inside.now) (can_start (λ d h. g.H.Held.records c.args.held.now d h) d h c.args.inside.now c.args.works.now c.args.sites was (g.H.Held.state c.args.held.now) o)).0) c.requires.fits opening (c.run-stop.ensures.records d h o.planned.represents.records_are)) (λ d h. g.H.Held.records c.working.new.held d h) (g.H.Held.state c.working.new.held) c.working.ensures.state (λ e keeps. c.working.ensures.records d e keeps) ((c.run-stop.ensures.ran d.plan h (owners_of c.args.inside.now) (stream_job c.args.inside.now) (can_start (λ d h. g.H.Held.records c.args.held.now d h) d h c.args.inside.now c.args.works.now c.args.sites was (g.H.Held.state c.args.held.now) o)).2 all)

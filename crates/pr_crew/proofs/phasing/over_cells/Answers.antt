@@ -1,6 +1,6 @@
 use Rattle.std.proofs.Common.{rules, ◌≤◌, subst, inr, arith}
 use Rattle.pr_crew.specs.Rooms.{total_at}
-use Rattle.pr_crew.proofs.Phased.{back_again, beside_both, fresh_close, fresh_here, nodes_here, none_carried, out_of, refused}
+use Rattle.pr_crew.proofs.Phased.{back_again, beside_both, fresh_close, fresh_here, nodes_here, none_added, none_carried, out_of, refused}
 use Rattle.pr_crew.proofs.phasing.over_cells.Goals as goal
 
 pub open-requires-clause-here : goal.open-requires-clause-here
@@ -40,3 +40,18 @@ returns-in_err-sites-clause-carried g c d h p =
 
 pub returns-in-Ok-clause-carried : goal.returns-in-Ok-clause-carried
 returns-in-Ok-clause-carried g c d h p = c.in_room.ensures.carried d h (g.H.Held.state c.args.held.now) (out_of (λ d h. g.H.Held.records c.args.held.now d h) (λ d h. g.H.Held.records c.open.new.held d h) d h c.args.inside.now c.args.works.now c.args.count _ c.in_ok-sites.sites (g.H.Held.state c.args.held.now) (g.H.Held.state c.open.new.held) (λ keeps. c.open.ensures.records d h keeps) p c.in_ok-sites.ensures.many.0 c.open.ensures.beside (c.in_ok-sites.ensures.opened d.plan h (λ n lt. nodes_here (λ d h. g.H.Held.records c.args.held.now d h) d h (g.H.Held.state c.args.held.now) p.represents n (let many = p.many in omega (arith, lt, many)))) (search rules) c.in_ok-sites.ensures.out) (λ n any lt. c.requires.opening d h p n any (let many = c.in_ok-sites.ensures.many.0 in omega (arith, lt, many)))
+
+pub returns-in_err-sites-clause-sound_events : goal.returns-in_err-sites-clause-sound_events
+returns-in_err-sites-clause-sound_events g c d h p all =
+    none_added (λ d h. g.H.Held.records c.open.new.held d h) d h (g.H.Held.state c.open.new.held)
+    (back_again (λ d h. g.H.Held.records c.args.held.now d h) (λ d h. g.H.Held.records c.open.new.held d h) d h (g.H.Held.state c.args.held.now) (g.H.Held.state c.open.new.held) (λ keeps. c.open.ensures.records d h keeps) p.represents c.open.ensures.beside (λ n lt. c.in_err-sites.ensures.back d.plan h (λ n lt. nodes_here (λ d h. g.H.Held.records c.args.held.now d h) d h (g.H.Held.state c.args.held.now) p.represents n (let many = p.many in omega (arith, lt, many))) n (let many = p.many in omega (arith, lt, many))))
+
+pub returns-in-Err-clause-sound_events : goal.returns-in-Err-clause-sound_events
+returns-in-Err-clause-sound_events g c d h p all =
+    none_added (λ d h. g.H.Held.records c.close.new.held d h) d h (g.H.Held.state c.close.new.held)
+    (back_again (λ d h. g.H.Held.records c.args.held.now d h) (λ d h. g.H.Held.records c.close.new.held d h) d h (g.H.Held.state c.args.held.now) (g.H.Held.state c.close.new.held) (λ keeps. c.close.ensures.records d h (c.open.ensures.records d h keeps)) p.represents
+    (beside_both (g.H.Held.state c.args.held.now) (g.H.Held.state c.open.new.held) (g.H.Held.state c.close.new.held) c.open.ensures.beside c.close.ensures.beside)
+    (λ n lt. fresh_here d.plan h _ c.in_ok-sites.sites (g.H.Held.state c.close.new.held) n ((c.in_ok-sites.ensures.opened d.plan h (λ n lt. nodes_here (λ d h. g.H.Held.records c.args.held.now d h) d h (g.H.Held.state c.args.held.now) p.represents n (let many = p.many in omega (arith, lt, many)))) n (let many = p.many in omega (arith, lt, many))) (λ e q site of_node. c.close.ensures.closed d.plan h n e q site of_node)))
+
+pub returns-in-Ok-clause-sound_events : goal.returns-in-Ok-clause-sound_events
+returns-in-Ok-clause-sound_events g c d h p all = c.in_room.ensures.sound_events d h (g.H.Held.state c.args.held.now) (out_of (λ d h. g.H.Held.records c.args.held.now d h) (λ d h. g.H.Held.records c.open.new.held d h) d h c.args.inside.now c.args.works.now c.args.count _ c.in_ok-sites.sites (g.H.Held.state c.args.held.now) (g.H.Held.state c.open.new.held) (λ keeps. c.open.ensures.records d h keeps) p c.in_ok-sites.ensures.many.0 c.open.ensures.beside (c.in_ok-sites.ensures.opened d.plan h (λ n lt. nodes_here (λ d h. g.H.Held.records c.args.held.now d h) d h (g.H.Held.state c.args.held.now) p.represents n (let many = p.many in omega (arith, lt, many)))) (search rules) c.in_ok-sites.ensures.out) (λ n any lt. c.requires.opening d h p n any (let many = c.in_ok-sites.ensures.many.0 in omega (arith, lt, many))) all

@@ -2,7 +2,7 @@ use Rattle.std.proofs.Common.{rules, All, ap, ◌∙◌, sym, subst, length, ari
 use Rattle.pr_crew.specs.Phases.{RepresentsNodes, SameAttached}
 use Rattle.pr_crew.specs.Sites.{IsHere}
 use Rattle.pr_crew.specs.Works.{IsSmall}
-use Rattle.pr_crew.proofs.Phased.{all_here, move_records, nodes_here, none_carried, planned_now, refused, works_many}
+use Rattle.pr_crew.proofs.Phased.{all_here, move_records, nodes_here, none_added, none_carried, planned_now, refused, works_many}
 use Rattle.pr_crew.proofs.phasing.phase.Goals as goal
 
 pub count_nodes-count-requires : goal.count_nodes-count-requires
@@ -58,3 +58,11 @@ returns-in_err-room-clause-carried g c d h r =
 
 pub returns-clause-carried : goal.returns-clause-carried
 returns-clause-carried g c d h r = c.over_cells.ensures.carried d h (planned_now (λ d h. g.H.Held.records c.args.held.now d h) (λ d h. g.H.Held.records c.take.new.held d h) d h c.args.inside.now c.in_ok-works.works.items c.as_slice-3.result.now c.count_nodes-count.result c.as_slice.result.now (g.H.Held.state c.args.held.now) (g.H.Held.state c.take.new.held) (λ keeps. c.take.ensures.records d h keeps) r c.requires.can (c.requires.distinct d h r) (c.as_slice.ensures ∙ c.in_ok-owners.ensures) (c.in_ok-works.ensures.works d h r.records_are) c.as_slice-3.ensures.value c.count_nodes-count.ensures c.take.ensures.state)
+
+pub returns-in_err-room-clause-sound_events : goal.returns-in_err-room-clause-sound_events
+returns-in_err-room-clause-sound_events g c d h r all =
+    none_added (λ d h. g.H.Held.records c.take.new.held d h) d h (g.H.Held.state c.take.new.held)
+    (move_records (λ d h. g.H.Held.records c.args.held.now d h) (λ d h. g.H.Held.records c.take.new.held d h) d h (g.H.Held.state c.take.new.held) (λ keeps. c.take.ensures.records d h keeps) (subst (λ s. RepresentsNodes (λ d h. g.H.Held.records c.args.held.now d h) d h s) (sym c.take.ensures.state) r))
+
+pub returns-clause-sound_events : goal.returns-clause-sound_events
+returns-clause-sound_events g c d h r all = c.over_cells.ensures.sound_events d h (planned_now (λ d h. g.H.Held.records c.args.held.now d h) (λ d h. g.H.Held.records c.take.new.held d h) d h c.args.inside.now c.in_ok-works.works.items c.as_slice-3.result.now c.count_nodes-count.result c.as_slice.result.now (g.H.Held.state c.args.held.now) (g.H.Held.state c.take.new.held) (λ keeps. c.take.ensures.records d h keeps) r c.requires.can (c.requires.distinct d h r) (c.as_slice.ensures ∙ c.in_ok-owners.ensures) (c.in_ok-works.ensures.works d h r.records_are) c.as_slice-3.ensures.value c.count_nodes-count.ensures c.take.ensures.state) all

@@ -1,0 +1,20 @@
+-- What a phase over sound wires leaves.
+use Rattle.std.specs.Prelude.{ℕ, List, ◌++◌, ◌≡◌, Some, slice_get}
+use Rattle.pr_flow.specs.Ending.{IsSoundEnd}
+use Rattle.pr_flow.specs.Sound.{AreSoundEvents}
+use Rattle.pr_merge.specs.Holding.{HeldState}
+use Rattle.pr_node.specs.Stored.{Stored}
+use Rattle.pr_story.specs.Counts.{Declared}
+use Rattle.pr_story.specs.History.{NodeEntry}
+use Rattle.pr_crew.specs.declared.task.FlowTask.{FlowTask}
+use Rattle.pr_crew.specs.declared.task.Task.{Task}
+use Rattle.pr_crew.specs.declared.task.Task.TheVariants as tasks
+use Rattle.pr_crew.specs.Phases.{RepresentsNodes}
+
+-- each flow ended as over a sound wire
+abbrev pub HaveSoundEnds : {W : Type 0} → List (Task W) → Type 0
+HaveSoundEnds {W} ts = (k : ℕ) (t : FlowTask W) → slice_get ts k ≡ Some (tasks.Flow t) → IsSoundEnd t.end
+
+-- what is held represents h with entries none of which says that a wire failed or ended
+abbrev pub AddsSound : (Declared → List NodeEntry → Type 0) → Declared → List NodeEntry → HeldState Stored → Type 0
+AddsSound records d h s = (new : List NodeEntry) × RepresentsNodes records d (new ++ h) s × AreSoundEvents new
