@@ -51,5 +51,6 @@ pub use printer::{print, print_decls};
 pub use reader::{Reader, read};
 pub use script::Script;
 pub use spelling::{hex_digit, print_text};
+pub use table::is_label;
 pub use text::read_text;
 pub use want::Want;

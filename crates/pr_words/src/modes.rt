@@ -3,14 +3,12 @@ ghost use Rattle.pr_words.specs.Command.{of_given};
 ghost use Rattle.pr_script.specs.Fields.{number_in};
 ghost use Rattle.pr_script.specs.Labels.{is_label};
 ghost use Rattle.pr_words.specs.Words.{Answers, alone, at_node, job_by, kept_by, made, made_by, node_by, stopped};
-ghost use Rattle.std.specs.Char.{is_ascii_alphanumeric};
-ghost use Rattle.std.specs.List.{list_all};
 ghost use Rattle.std.specs.Prelude.{◌≡◌, None, if◌then◌else◌};
 
 use crate::given::Given;
 use crate::mode::Mode;
 use crate::{Bytes, Job, WordsFault};
-use pr_script::number_within;
+use pr_script::{is_label, number_within};
 use pr_stamps::Seq;
 use std::alloc::Global;
 
@@ -104,16 +102,4 @@ fn at_node(mode: Mode, node: Bytes) -> Result<Job, WordsFault>
         Mode::Pull => Ok(Job::Pull { node }),
         _ => Err(WordsFault::Usage),
     }
-}
-
-fn is_label(text: &[u8]) -> bool
-    ensures { result ≡ is_label text.now }
-{
-    1 <= text.len() && text.len() <= 16 && alphanumeric(text)
-}
-
-fn alphanumeric(text: &[u8]) -> bool
-    ensures { result ≡ list_all is_ascii_alphanumeric text.now }
-{
-    text.iter().all(|b| b.is_ascii_alphanumeric())
 }
