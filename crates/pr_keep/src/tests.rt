@@ -3,7 +3,7 @@ ghost use Rattle.pr_keep.specs.Entries.{HasMessage};
 ghost use Rattle.pr_keep.specs.Keeping.{Keeps};
 ghost use Rattle.pr_keep.specs.Memory.{IsImage, state_of};
 ghost use Rattle.pr_story.specs.declared.entry.Entry.{Entry};
-ghost use Rattle.std.specs.Prelude.{◌≡◌, ℕ, List, [], IfOk, IsTrue};
+ghost use Rattle.std.specs.Prelude.{◌≡◌, ℕ, List, [], IfSome, IsTrue};
 
 use crate::reading::whole_entry;
 use crate::spelling::append_entry;
@@ -18,7 +18,6 @@ use pr_story::{Cause, Entry, Event, Found, Reply};
 use pr_vectors::Vector;
 use pr_wire::{Feed, Next};
 use std::alloc::Global;
-use std::test::Fail;
 
 // A precise invalidation of a/x.
 const FRAME: [u8; 56] = [
@@ -26,31 +25,39 @@ const FRAME: [u8; 56] = [
     1, 0, 0, 0, 0, 0, 0, 0, 0, 1, 3, 97, 47, 120, 0, 0, 0, 0, 0, 0, 0, 1, 0, 0, 0,
 ];
 
-fn message(alloc: Global) -> Result<Msg, Fail>
-    ensures { IfOk result IsMessage }
+// What a test needs is made in short functions, which answer `None` where there is no memory or a value is refused.
+
+fn message(alloc: Global) -> Option<Msg>
+    ensures { IfSome result IsMessage }
 {
     let mut feed = Feed::new(alloc, u64::MAX);
-    feed.push(&FRAME).ok().ok_or("no memory")?;
+    feed.push(&FRAME).ok()?;
     match feed.next() {
-        Ok(Next::Message(msg)) => Ok(msg),
-        _ => Err(Fail::from("no message")),
+        Ok(Next::Message(msg)) => Some(msg),
+        _ => None,
     }
 }
 
-fn name() -> Result<Name, Fail> {
-    Ok(Name::read(b"a/x").ok().ok_or("no name")?)
+fn name() -> Option<Name> {
+    Name::read(b"a/x").ok()
 }
 
-fn stamp(clock: u64, node: u32) -> Result<Stamp, Fail> {
-    Ok(Stamp::new(clock, node).ok_or("no stamp")?)
+fn text(alloc: Global) -> Option<Bytes> {
+    Seq::copied(alloc, b"hi").ok()
 }
 
-fn text(alloc: Global) -> Result<Bytes, Fail> {
-    Ok(Seq::copied(alloc, b"hi").ok().ok_or("no memory")?)
+// ---- entries that come back
+
+// Whether these bytes are read as an entry of node 3.
+fn is_read(alloc: Global, bytes: &[u8]) -> bool {
+    match whole_entry(alloc, bytes) {
+        Ok((node, entry)) => node == 3 && entry.time == 5 && entry.caller == 7,
+        Err(_) => false,
+    }
 }
 
-// The entry is read again from its spelling, which has this kind.
-fn comes_back(alloc: Global, kind: u8, event: Event) -> Result<(), Fail>
+// Whether the entry is read again from its spelling, which has this kind.
+fn comes_back(alloc: Global, kind: u8, event: Event) -> Option<bool>
     requires { HasMessage event }
 {
     let entry = Entry {
@@ -59,184 +66,165 @@ fn comes_back(alloc: Global, kind: u8, event: Event) -> Result<(), Fail>
         event,
     };
     let mut out = Seq::new(alloc);
-    append_entry(3, &entry, &mut out).ok().ok_or("no memory")?;
-    if out.as_slice().get(13) != Some(&kind) {
-        return Err(Fail::from("another kind"));
-    }
-    match whole_entry(alloc, out.as_slice()) {
-        Ok(
-            (
-                3,
-                Entry {
-                    time: 5,
-                    caller: 7,
-                    ..
-                },
-            ),
-        ) => Ok(()),
-        _ => Err(Fail::from("another entry")),
-    }
+    append_entry(3, &entry, &mut out).ok()?;
+    let bytes = out.as_slice();
+    Some(bytes.len() > 13 && bytes[13] == kind && is_read(alloc, bytes))
 }
 
-#[test]
-fn events_of_writes_and_streams_come_back(rt: HostRuntime) -> Result<(), Fail> {
-    let alloc = rt.alloc();
+fn wrote(alloc: Global) -> Option<Event>
+    ensures { IfSome result HasMessage }
+{
     let write = WriteRec {
         name: name()?,
-        stamp: stamp(4, 1)?,
-        prev: Some(stamp(4, 2)?),
+        stamp: Stamp::new(4, 1)?,
+        prev: Some(Stamp::new(4, 2)?),
         gone: true,
     };
-    let body = text(alloc)?;
-    let after = Vector::zero();
-    comes_back(
-        alloc,
-        1,
-        Event::Wrote {
-            client: 1,
-            write,
-            body,
-            after,
-        },
-    )?;
-    comes_back(
-        alloc,
-        2,
-        Event::Attached {
-            stream: 1,
-            at: after,
-        },
-    )?;
-    comes_back(alloc, 4, Event::Idle { stream: 1 })?;
-    comes_back(
-        alloc,
-        5,
-        Event::Stale {
-            stream: 1,
-            cut: after,
-        },
-    )
+    Some(Event::Wrote {
+        client: 1,
+        write,
+        body: text(alloc)?,
+        after: Vector::zero(),
+    })
 }
 
-#[test]
-fn events_with_messages_come_back(rt: HostRuntime) -> Result<(), Fail> {
-    let alloc = rt.alloc();
+fn streams_come_back(alloc: Global) -> Option<bool> {
     let at = Vector::zero();
-    comes_back(
-        alloc,
-        3,
-        Event::Sent {
-            msg: message(alloc)?,
-        },
-    )?;
-    comes_back(
-        alloc,
-        6,
-        Event::Accepted {
-            msg: message(alloc)?,
-            at,
-        },
-    )?;
-    comes_back(
-        alloc,
-        7,
-        Event::Gapped {
-            msg: message(alloc)?,
-            has: at,
-        },
+    Some(
+        comes_back(alloc, 1, wrote(alloc)?)?
+            && comes_back(alloc, 2, Event::Attached { stream: 1, at })?
+            && comes_back(alloc, 4, Event::Idle { stream: 1 })?
+            && comes_back(alloc, 5, Event::Stale { stream: 1, cut: at })?,
     )
 }
 
 #[test]
-fn events_of_flows_and_clients_come_back(rt: HostRuntime) -> Result<(), Fail> {
-    let alloc = rt.alloc();
-    let needs = Vector::zero();
-    comes_back(
-        alloc,
-        8,
-        Event::Missing {
-            stream: 1,
-            number: 2,
-        },
-    )?;
-    comes_back(
-        alloc,
-        9,
-        Event::Down {
-            stream: 1,
-            cause: Cause::Gap,
-        },
-    )?;
-    comes_back(alloc, 15, Event::Moved { client: 1 })?;
-    comes_back(
-        alloc,
-        16,
-        Event::Behind {
-            client: 1,
-            needs,
-            has: needs,
-        },
+fn events_of_writes_and_streams_come_back(rt: HostRuntime) {
+    assert!(rt; streams_come_back(rt.alloc()).unwrap_or(false));
+}
+
+fn sent(alloc: Global) -> Option<bool> {
+    let msg = message(alloc)?;
+    comes_back(alloc, 3, Event::Sent { msg })
+}
+
+fn accepted(alloc: Global) -> Option<bool> {
+    let (msg, at) = (message(alloc)?, Vector::zero());
+    comes_back(alloc, 6, Event::Accepted { msg, at })
+}
+
+fn gapped(alloc: Global) -> Option<bool> {
+    let (msg, has) = (message(alloc)?, Vector::zero());
+    comes_back(alloc, 7, Event::Gapped { msg, has })
+}
+
+fn messages_come_back(alloc: Global) -> Option<bool> {
+    Some(sent(alloc)? && accepted(alloc)? && gapped(alloc)?)
+}
+
+#[test]
+fn events_with_messages_come_back(rt: HostRuntime) {
+    assert!(rt; messages_come_back(rt.alloc()).unwrap_or(false));
+}
+
+fn missing() -> Event
+    ensures { HasMessage result }
+{
+    Event::Missing {
+        stream: 1,
+        number: 2,
+    }
+}
+
+fn behind() -> Event
+    ensures { HasMessage result }
+{
+    Event::Behind {
+        client: 1,
+        needs: Vector::zero(),
+        has: Vector::zero(),
+    }
+}
+
+fn flows_come_back(alloc: Global) -> Option<bool> {
+    let cause = Cause::Gap;
+    Some(
+        comes_back(alloc, 8, missing())?
+            && comes_back(alloc, 9, Event::Down { stream: 1, cause })?
+            && comes_back(alloc, 15, Event::Moved { client: 1 })?
+            && comes_back(alloc, 16, behind())?,
     )
 }
 
-// A client's read of a/x was answered so.
-fn answered(reply: Reply) -> Result<Event, Fail>
-    ensures { IfOk result HasMessage }
-{
-    Ok(Event::Answered {
+#[test]
+fn events_of_flows_and_clients_come_back(rt: HostRuntime) {
+    assert!(rt; flows_come_back(rt.alloc()).unwrap_or(false));
+}
+
+// Whether this answer to a client's read of a/x comes back.
+fn is_answer(alloc: Global, reply: Reply) -> Option<bool> {
+    let event = Event::Answered {
         client: 1,
         name: name()?,
         reply,
         at: Vector::zero(),
-    })
+    };
+    comes_back(alloc, 10, event)
 }
 
-#[test]
-fn answers_come_back(rt: HostRuntime) -> Result<(), Fail> {
-    let alloc = rt.alloc();
-    let untold = stamp(4, 1)?;
+fn is_value(alloc: Global, stamp: Stamp) -> Option<bool> {
     let bytes = text(alloc)?;
-    comes_back(alloc, 10, answered(Reply::Never)?)?;
-    comes_back(
-        alloc,
-        10,
-        answered(Reply::Value {
-            stamp: untold,
-            bytes,
-        })?,
-    )?;
-    comes_back(alloc, 10, answered(Reply::Imprecise { untold })?)?;
-    comes_back(alloc, 10, answered(Reply::Gone { stamp: untold })?)
+    is_answer(alloc, Reply::Value { stamp, bytes })
 }
 
-#[test]
-fn events_of_nodes_come_back(rt: HostRuntime) -> Result<(), Fail> {
-    let alloc = rt.alloc();
-    let at = Vector::zero();
-    let pairs = Seq::copied(alloc, &[(stamp(4, 1)?, stamp(5, 2)?)]);
-    let found = Found::Pairs(pairs.ok().ok_or("no memory")?);
-    let precise = Seq::copied(alloc, &[at, at]).ok().ok_or("no memory")?;
-    comes_back(alloc, 11, Event::Cut { at })?;
-    comes_back(alloc, 12, Event::Dropped { name: name()? })?;
-    comes_back(
-        alloc,
-        13,
-        Event::Conflicts {
-            name: name()?,
-            found,
-        },
-    )?;
-    comes_back(
-        alloc,
-        14,
-        Event::State {
-            at,
-            cut: at,
-            floor: at,
-            precise,
-        },
+fn are_answers(alloc: Global) -> Option<bool> {
+    let stamp = Stamp::new(4, 1)?;
+    Some(
+        is_answer(alloc, Reply::Never)?
+            && is_value(alloc, stamp)?
+            && is_answer(alloc, Reply::Imprecise { untold: stamp })?
+            && is_answer(alloc, Reply::Gone { stamp })?,
     )
 }
+
+#[test]
+fn answers_come_back(rt: HostRuntime) {
+    assert!(rt; are_answers(rt.alloc()).unwrap_or(false));
+}
+
+fn conflicts(alloc: Global) -> Option<bool> {
+    let (name, pair) = (name()?, (Stamp::new(4, 1)?, Stamp::new(5, 2)?));
+    let found = Found::Pairs(Seq::copied(alloc, &[pair]).ok()?);
+    comes_back(alloc, 13, Event::Conflicts { name, found })
+}
+
+fn state(alloc: Global) -> Option<bool> {
+    let at = Vector::zero();
+    let event = Event::State {
+        at,
+        cut: at,
+        floor: at,
+        precise: Seq::copied(alloc, &[at, at]).ok()?,
+    };
+    comes_back(alloc, 14, event)
+}
+
+fn nodes_come_back(alloc: Global) -> Option<bool> {
+    let (at, name) = (Vector::zero(), name()?);
+    Some(
+        comes_back(alloc, 11, Event::Cut { at })?
+            && comes_back(alloc, 12, Event::Dropped { name })?
+            && conflicts(alloc)?
+            && state(alloc)?,
+    )
+}
+
+#[test]
+fn events_of_nodes_come_back(rt: HostRuntime) {
+    assert!(rt; nodes_come_back(rt.alloc()).unwrap_or(false));
+}
+
+// ---- the format
 
 // A client came to node 3, by the format's own words.
 const MOVED: [u8; 18] = [3, 0, 0, 0, 0, 0, 0, 0, 5, 0, 0, 0, 7, 15, 0, 0, 0, 9];
@@ -251,13 +239,18 @@ fn moved() -> Entry
     }
 }
 
-#[test]
-fn an_entry_has_the_bytes_of_the_format(rt: HostRuntime) -> Result<(), Fail> {
-    let mut out = Seq::new(rt.alloc());
-    append_entry(3, &moved(), &mut out).ok().ok_or("no memory")?;
-    assert_eq!(rt; out.as_slice(), MOVED.as_slice());
-    Ok(())
+fn has_the_bytes(alloc: Global) -> Option<bool> {
+    let mut out = Seq::new(alloc);
+    append_entry(3, &moved(), &mut out).ok()?;
+    Some(out.as_slice() == MOVED.as_slice())
 }
+
+#[test]
+fn an_entry_has_the_bytes_of_the_format(rt: HostRuntime) {
+    assert!(rt; has_the_bytes(rt.alloc()).unwrap_or(false));
+}
+
+// ---- a disk that stops
 
 // How many entries a disk in memory has, or None where it stands for no list.
 fn entries_of(alloc: Global, disk: MemoryDisk) -> Option<usize> {
@@ -280,52 +273,61 @@ fn kept_until(alloc: Global, stop: u64) -> MemoryDisk {
     keep.close()
 }
 
-#[test]
-fn a_stop_leaves_the_entries_that_were_kept(rt: HostRuntime) -> Result<(), Fail> {
-    let alloc = rt.alloc();
-    let found = [
-        None,
-        None,
-        Some(0),
-        Some(0),
-        Some(0),
-        Some(0),
-        Some(1),
-        Some(1),
-        Some(1),
-        Some(1),
-        Some(2),
-    ];
-    for (stop, entries) in found.iter().enumerate() {
-        let disk = kept_until(alloc, stop as u64);
-        assert_eq!(rt; disk.good(), stop as u64);
-        assert_eq!(rt; entries_of(alloc, disk.image()), *entries);
-    }
-    Ok(())
+// How many entries there are after a stop at each call, from the first on.
+const FOUND: [Option<usize>; 11] = [
+    None,
+    None,
+    Some(0),
+    Some(0),
+    Some(0),
+    Some(0),
+    Some(1),
+    Some(1),
+    Some(1),
+    Some(1),
+    Some(2),
+];
+
+fn leaves(alloc: Global, stop: u64, entries: Option<usize>) -> bool {
+    let disk = kept_until(alloc, stop);
+    disk.good() == stop && entries_of(alloc, disk.image()) == entries
 }
 
+#[test]
+fn a_stop_leaves_the_entries_that_were_kept(rt: HostRuntime) {
+    for (stop, entries) in FOUND.iter().enumerate() {
+        assert!(rt; leaves(rt.alloc(), stop as u64, *entries));
+    }
+}
+
+// ---- a damaged file
+
 // Where a file of these bytes is damaged.
-fn damaged_at(alloc: Global, bytes: &[u8]) -> Result<Option<u64>, Fail> {
+fn damaged_at(alloc: Global, bytes: &[u8]) -> Option<Option<u64>> {
     let mut disk = MemoryDisk::new(alloc, u64::MAX);
-    disk.write(0, bytes).ok().ok_or("no memory")?;
+    disk.write(0, bytes).ok()?;
     match Keep::open(alloc, disk) {
-        Ok(_) => Ok(None),
+        Ok(_) => Some(None),
         Err(refused) => match refused.fault {
-            KeepFault::Damaged { at } => Ok(Some(at)),
-            _ => Err(Fail::from("another fault")),
+            KeepFault::Damaged { at } => Some(Some(at)),
+            _ => None,
         },
     }
 }
 
+fn are_damaged(alloc: Global) -> Option<bool> {
+    Some(
+        damaged_at(alloc, b"PRACTIK2\0")? == Some(0)
+            && damaged_at(alloc, b"PRACTIK1")? == Some(8)
+            && damaged_at(alloc, b"PRACTIK1\x01\0\0")? == Some(8)
+            && damaged_at(alloc, b"PRACTIK1\0\x01")? == None
+            && damaged_at(alloc, b"PRACTIK1\x07")? == None,
+    )
+}
+
 #[test]
-fn a_damaged_file_is_told_by_its_first_wrong_byte(rt: HostRuntime) -> Result<(), Fail> {
-    let alloc = rt.alloc();
-    assert_eq!(rt; damaged_at(alloc, b"PRACTIK2\0")?, Some(0));
-    assert_eq!(rt; damaged_at(alloc, b"PRACTIK1")?, Some(8));
-    assert_eq!(rt; damaged_at(alloc, b"PRACTIK1\x01\0\0")?, Some(8));
-    assert_eq!(rt; damaged_at(alloc, b"PRACTIK1\0\x01")?, None);
-    assert_eq!(rt; damaged_at(alloc, b"PRACTIK1\x07")?, None);
-    Ok(())
+fn a_damaged_file_is_told_by_its_first_wrong_byte(rt: HostRuntime) {
+    assert!(rt; are_damaged(rt.alloc()).unwrap_or(false));
 }
 
 #[test]

@@ -9,15 +9,16 @@ use pr_stamps::{Mark, Seq, Stamp};
 use pr_story::{Cause, Event, Found, Reply};
 use pr_vectors::Vector;
 use std::alloc::Global;
-use std::test::Fail;
 
 const HEADS: &[u8] =
     b"node A a/*,b c\nclient c A\nnode B\nclient d B\nstream s A B *\nstream t A B a/x bodies\n";
 
-fn decls(alloc: Global) -> Result<Decls, Fail> {
+// What a test needs is made in short functions, which answer `None` where there is no memory or a value is refused.
+
+fn decls(alloc: Global) -> Option<Decls> {
     match read(alloc, HEADS) {
-        Ok(script) => Ok(script.decls),
-        Err(_) => Err(Fail::from("a script")),
+        Ok(script) => Some(script.decls),
+        Err(_) => None,
     }
 }
 
@@ -82,22 +83,18 @@ fn wrote(alloc: Global, gone: bool, body: &[u8], after: Vector) -> Option<Event>
     })
 }
 
-#[test]
-fn writes_and_deletes(rt: HostRuntime) -> Result<(), Fail> {
-    let decls = decls(rt.alloc())?;
-    let event = wrote(rt.alloc(), false, b"h \"\\\n\xffi", vector(2, 0));
+fn are_writes_told(alloc: Global) -> Option<bool> {
+    let decls = decls(alloc)?;
     let text = b"write d a/x \"h \\22\\5c\\0a\\ffi\" 3@B over 1@A after A:2\n";
-    assert!(rt; says(rt.alloc(), &decls, event, text));
-    let event = wrote(rt.alloc(), true, b"", vector(0, 0));
-    assert!(rt;
-        says(
-            rt.alloc(),
-            &decls,
-            event,
-            b"delete d a/x 3@B over 1@A after -\n"
-        )
-    );
-    Ok(())
+    let event = wrote(alloc, false, b"h \"\\\n\xffi", vector(2, 0));
+    let first = says(alloc, &decls, event, text);
+    let event = wrote(alloc, true, b"", vector(0, 0));
+    Some(first && says(alloc, &decls, event, b"delete d a/x 3@B over 1@A after -\n"))
+}
+
+#[test]
+fn writes_and_deletes(rt: HostRuntime) {
+    assert!(rt; are_writes_told(rt.alloc()).unwrap_or(false));
 }
 
 fn message(stream: u32, number: u64, kind: Kind) -> Msg {
@@ -139,21 +136,27 @@ fn body(alloc: Global) -> Option<Kind> {
     Some(Kind::Body { name, stamp, bytes })
 }
 
+fn are_messages_told(alloc: Global) -> Option<bool> {
+    let decls = decls(alloc)?;
+    let precisely = b"send t 17 precise a/x 3@B over 1@A from - to A:1,B:2\n";
+    let gone = b"send t 17 gone a/x 3@B over 1@A from - to A:1,B:2\n";
+    let coarsely = b"send t 17 imprecise a/*,b from A:1 to A:1,B:2\n";
+    Some(
+        says(alloc, &decls, sent(precise(false)), precisely)
+            && says(alloc, &decls, sent(precise(true)), gone)
+            && says(alloc, &decls, sent(imprecise(alloc)), coarsely)
+            && says(
+                alloc,
+                &decls,
+                sent(body(alloc)),
+                b"send t 17 body b 2@A \"x y\"\n",
+            ),
+    )
+}
+
 #[test]
-fn messages(rt: HostRuntime) -> Result<(), Fail> {
-    let decls = decls(rt.alloc())?;
-    let event = sent(precise(false));
-    let text = b"send t 17 precise a/x 3@B over 1@A from - to A:1,B:2\n";
-    assert!(rt; says(rt.alloc(), &decls, event, text));
-    let event = sent(precise(true));
-    let text = b"send t 17 gone a/x 3@B over 1@A from - to A:1,B:2\n";
-    assert!(rt; says(rt.alloc(), &decls, event, text));
-    let event = sent(imprecise(rt.alloc()));
-    let text = b"send t 17 imprecise a/*,b from A:1 to A:1,B:2\n";
-    assert!(rt; says(rt.alloc(), &decls, event, text));
-    let event = sent(body(rt.alloc()));
-    assert!(rt; says(rt.alloc(), &decls, event, b"send t 17 body b 2@A \"x y\"\n"));
-    Ok(())
+fn messages(rt: HostRuntime) {
+    assert!(rt; are_messages_told(rt.alloc()).unwrap_or(false));
 }
 
 fn mark(clock: u64, node: u32, prev: Option<Stamp>) -> Option<Mark> {
@@ -200,31 +203,45 @@ fn checkpoint(target: Option<NameSet>, rows: Option<Seq<Row>>) -> Option<Kind> {
     })
 }
 
-#[test]
-fn checkpoints(rt: HostRuntime) -> Result<(), Fail> {
-    let decls = decls(rt.alloc())?;
-    let event = sent(checkpoint(set(rt.alloc(), b"~"), rows(rt.alloc())));
+fn are_checkpoints_told(alloc: Global) -> Option<bool> {
+    let decls = decls(alloc)?;
     let text = b"send t 17 checkpoint ~ to A:3,B:1 floor A:1 rows a/x=3@B(1@A<-;3@B<1@A),b!2@A()\n";
-    assert!(rt; says(rt.alloc(), &decls, event, text));
-    let event = sent(checkpoint(set(rt.alloc(), b"*"), Some(Seq::new(rt.alloc()))));
+    let event = sent(checkpoint(set(alloc, b"~"), rows(alloc)));
+    let first = says(alloc, &decls, event, text);
     let text = b"send t 17 checkpoint * to A:3,B:1 floor A:1 rows -\n";
-    assert!(rt; says(rt.alloc(), &decls, event, text));
-    Ok(())
+    let event = sent(checkpoint(set(alloc, b"*"), Some(Seq::new(alloc))));
+    Some(first && says(alloc, &decls, event, text))
 }
 
 #[test]
-fn streams(rt: HostRuntime) -> Result<(), Fail> {
-    let decls = decls(rt.alloc())?;
+fn checkpoints(rt: HostRuntime) {
+    assert!(rt; are_checkpoints_told(rt.alloc()).unwrap_or(false));
+}
+
+fn are_streams_told(alloc: Global) -> Option<bool> {
+    let decls = decls(alloc)?;
     let (stream, at, cut) = (1, vector(0, 4), vector(7, 0));
-    let event = Some(Event::Attached { stream, at });
-    assert!(rt; says(rt.alloc(), &decls, event, b"attach t at B:4\n"));
-    let event = Some(Event::Idle { stream });
-    assert!(rt; says(rt.alloc(), &decls, event, b"idle t\n"));
-    let event = Some(Event::Stale { stream, cut });
-    assert!(rt; says(rt.alloc(), &decls, event, b"stale t cut A:7\n"));
-    let event = Some(Event::Missing { stream, number: 0 });
-    assert!(rt; says(rt.alloc(), &decls, event, b"missing t 0\n"));
-    Ok(())
+    let missing = Event::Missing { stream, number: 0 };
+    Some(
+        says(
+            alloc,
+            &decls,
+            Some(Event::Attached { stream, at }),
+            b"attach t at B:4\n",
+        ) && says(alloc, &decls, Some(Event::Idle { stream }), b"idle t\n")
+            && says(
+                alloc,
+                &decls,
+                Some(Event::Stale { stream, cut }),
+                b"stale t cut A:7\n",
+            )
+            && says(alloc, &decls, Some(missing), b"missing t 0\n"),
+    )
+}
+
+#[test]
+fn streams(rt: HostRuntime) {
+    assert!(rt; are_streams_told(rt.alloc()).unwrap_or(false));
 }
 
 fn accepted(kind: Option<Kind>, at: Vector) -> Option<Event> {
@@ -237,32 +254,35 @@ fn gapped(kind: Option<Kind>, has: Vector) -> Option<Event> {
     Some(Event::Gapped { msg, has })
 }
 
-#[test]
-fn arrivals(rt: HostRuntime) -> Result<(), Fail> {
-    let decls = decls(rt.alloc())?;
-    let event = accepted(precise(false), vector(1, 2));
-    assert!(rt; says(rt.alloc(), &decls, event, b"accept s 2 at A:1,B:2\n"));
-    let event = gapped(imprecise(rt.alloc()), vector(0, 1));
-    assert!(rt; says(rt.alloc(), &decls, event, b"gap s 2 needs A:1 has B:1\n"));
-    Ok(())
+fn are_arrivals_told(alloc: Global) -> Option<bool> {
+    let decls = decls(alloc)?;
+    let accepted = accepted(precise(false), vector(1, 2));
+    let taken = says(alloc, &decls, accepted, b"accept s 2 at A:1,B:2\n");
+    let gapped = gapped(imprecise(alloc), vector(0, 1));
+    Some(taken && says(alloc, &decls, gapped, b"gap s 2 needs A:1 has B:1\n"))
 }
 
 #[test]
-fn ends_of_flows(rt: HostRuntime) -> Result<(), Fail> {
-    let decls = decls(rt.alloc())?;
-    let causes: [(Cause, &[u8]); 3] = [
-        (Cause::Failed, b"down s failed\n"),
-        (Cause::Ended, b"down s ended\n"),
-        (Cause::Gap, b"down s gap\n"),
-    ];
-    for (cause, text) in &causes {
-        let event = Some(Event::Down {
-            stream: 0,
-            cause: *cause,
-        });
-        assert!(rt; says(rt.alloc(), &decls, event, text));
-    }
-    Ok(())
+fn arrivals(rt: HostRuntime) {
+    assert!(rt; are_arrivals_told(rt.alloc()).unwrap_or(false));
+}
+
+fn is_end(alloc: Global, decls: &Decls, cause: Cause, text: &[u8]) -> bool {
+    says(alloc, decls, Some(Event::Down { stream: 0, cause }), text)
+}
+
+fn are_ends_told(alloc: Global) -> Option<bool> {
+    let decls = decls(alloc)?;
+    Some(
+        is_end(alloc, &decls, Cause::Failed, b"down s failed\n")
+            && is_end(alloc, &decls, Cause::Ended, b"down s ended\n")
+            && is_end(alloc, &decls, Cause::Gap, b"down s gap\n"),
+    )
+}
+
+#[test]
+fn ends_of_flows(rt: HostRuntime) {
+    assert!(rt; are_ends_told(rt.alloc()).unwrap_or(false));
 }
 
 fn answered(reply: Reply) -> Option<Event> {
@@ -275,26 +295,25 @@ fn answered(reply: Reply) -> Option<Event> {
     })
 }
 
+fn is_answer(alloc: Global, decls: &Decls, reply: Reply, text: &[u8]) -> bool {
+    says(alloc, decls, answered(reply), text)
+}
+
+fn are_answers_told(alloc: Global) -> Option<bool> {
+    let (stamp, decls) = (Stamp::new(5, 0)?, decls(alloc)?);
+    let untold = Reply::Imprecise { untold: stamp };
+    let (body, gone) = (Reply::Body { stamp }, Reply::Gone { stamp });
+    Some(
+        is_answer(alloc, &decls, Reply::Never, b"read c b never at A:1\n")
+            && is_answer(alloc, &decls, untold, b"read c b imprecise 5@A at A:1\n")
+            && is_answer(alloc, &decls, body, b"read c b body 5@A at A:1\n")
+            && is_answer(alloc, &decls, gone, b"read c b gone 5@A at A:1\n"),
+    )
+}
+
 #[test]
-fn answers(rt: HostRuntime) -> Result<(), Fail> {
-    let decls = decls(rt.alloc())?;
-    let stamp = Stamp::new(5, 0).ok_or("a stamp")?;
-    let event = answered(Reply::Never);
-    assert!(rt; says(rt.alloc(), &decls, event, b"read c b never at A:1\n"));
-    let event = answered(Reply::Imprecise { untold: stamp });
-    assert!(rt;
-        says(
-            rt.alloc(),
-            &decls,
-            event,
-            b"read c b imprecise 5@A at A:1\n"
-        )
-    );
-    let event = answered(Reply::Body { stamp });
-    assert!(rt; says(rt.alloc(), &decls, event, b"read c b body 5@A at A:1\n"));
-    let event = answered(Reply::Gone { stamp });
-    assert!(rt; says(rt.alloc(), &decls, event, b"read c b gone 5@A at A:1\n"));
-    Ok(())
+fn answers(rt: HostRuntime) {
+    assert!(rt; are_answers_told(rt.alloc()).unwrap_or(false));
 }
 
 fn value(bytes: Option<Bytes>) -> Option<Event> {
@@ -303,19 +322,15 @@ fn value(bytes: Option<Bytes>) -> Option<Event> {
     answered(Reply::Value { stamp, bytes })
 }
 
+fn are_values_told(alloc: Global) -> Option<bool> {
+    let decls = decls(alloc)?;
+    let event = value(bytes(alloc, b""));
+    Some(says(alloc, &decls, event, b"read c b value 5@A \"\" at A:1\n"))
+}
+
 #[test]
-fn values(rt: HostRuntime) -> Result<(), Fail> {
-    let decls = decls(rt.alloc())?;
-    let event = value(bytes(rt.alloc(), b""));
-    assert!(rt;
-        says(
-            rt.alloc(),
-            &decls,
-            event,
-            b"read c b value 5@A \"\" at A:1\n"
-        )
-    );
-    Ok(())
+fn values(rt: HostRuntime) {
+    assert!(rt; are_values_told(rt.alloc()).unwrap_or(false));
 }
 
 fn dropped() -> Option<Event> {
@@ -323,18 +338,21 @@ fn dropped() -> Option<Event> {
     Some(Event::Dropped { name })
 }
 
-#[test]
-fn clients_and_nodes(rt: HostRuntime) -> Result<(), Fail> {
-    let decls = decls(rt.alloc())?;
+fn are_clients_told(alloc: Global) -> Option<bool> {
+    let decls = decls(alloc)?;
     let (client, needs, has, at) = (1, vector(0, 9), vector(0, 0), vector(2, 0));
-    let event = Some(Event::Behind { client, needs, has });
-    assert!(rt; says(rt.alloc(), &decls, event, b"behind d needs B:9 has -\n"));
-    let event = Some(Event::Moved { client });
-    assert!(rt; says(rt.alloc(), &decls, event, b"move d B\n"));
-    let event = Some(Event::Cut { at });
-    assert!(rt; says(rt.alloc(), &decls, event, b"cut B at A:2\n"));
-    assert!(rt; says(rt.alloc(), &decls, dropped(), b"drop B a/x\n"));
-    Ok(())
+    let behind = Event::Behind { client, needs, has };
+    Some(
+        says(alloc, &decls, Some(behind), b"behind d needs B:9 has -\n")
+            && says(alloc, &decls, Some(Event::Moved { client }), b"move d B\n")
+            && says(alloc, &decls, Some(Event::Cut { at }), b"cut B at A:2\n")
+            && says(alloc, &decls, dropped(), b"drop B a/x\n"),
+    )
+}
+
+#[test]
+fn clients_and_nodes(rt: HostRuntime) {
+    assert!(rt; are_clients_told(rt.alloc()).unwrap_or(false));
 }
 
 fn conflicts(found: Found) -> Option<Event> {
@@ -350,25 +368,27 @@ fn pairs(alloc: Global) -> Option<Seq<(Stamp, Stamp)>> {
     Some(pairs)
 }
 
-#[test]
-fn conflicts_of_a_name(rt: HostRuntime) -> Result<(), Fail> {
-    let decls = decls(rt.alloc())?;
-    let event = conflicts(Found::Pairs(Seq::new(rt.alloc())));
-    assert!(rt; says(rt.alloc(), &decls, event, b"conflicts B a/x -\n"));
-    let event = conflicts(Found::Pairs(pairs(rt.alloc()).ok_or("pairs")?));
-    let text = b"conflicts B a/x 1@A|1@B,1@B|2@A\n";
-    assert!(rt; says(rt.alloc(), &decls, event, text));
-    let untold = Stamp::new(1, 0).ok_or("a stamp")?;
-    let event = conflicts(Found::Imprecise { untold });
-    assert!(rt;
-        says(
-            rt.alloc(),
-            &decls,
-            event,
-            b"conflicts B a/x imprecise 1@A\n"
-        )
+fn two_conflicts(alloc: Global) -> Option<Event> {
+    conflicts(Found::Pairs(pairs(alloc)?))
+}
+
+fn are_conflicts_told(alloc: Global) -> Option<bool> {
+    let (untold, decls) = (Stamp::new(1, 0)?, decls(alloc)?);
+    let none = Found::Pairs(Seq::new(alloc));
+    let first = says(alloc, &decls, conflicts(none), b"conflicts B a/x -\n");
+    let second = says(
+        alloc,
+        &decls,
+        two_conflicts(alloc),
+        b"conflicts B a/x 1@A|1@B,1@B|2@A\n",
     );
-    Ok(())
+    let untold = conflicts(Found::Imprecise { untold });
+    Some(first && second && says(alloc, &decls, untold, b"conflicts B a/x imprecise 1@A\n"))
+}
+
+#[test]
+fn conflicts_of_a_name(rt: HostRuntime) {
+    assert!(rt; are_conflicts_told(rt.alloc()).unwrap_or(false));
 }
 
 fn state(alloc: Global) -> Option<Event> {
@@ -383,21 +403,27 @@ fn state(alloc: Global) -> Option<Event> {
     })
 }
 
-#[test]
-fn states(rt: HostRuntime) -> Result<(), Fail> {
-    let decls = decls(rt.alloc())?;
+fn are_states_told(alloc: Global) -> Option<bool> {
+    let decls = decls(alloc)?;
     let text = b"state B at A:2,B:1 cut - floor A:1 precise A:2 -\n";
-    assert!(rt; says(rt.alloc(), &decls, state(rt.alloc()), text));
-    Ok(())
+    Some(says(alloc, &decls, state(alloc), text))
 }
 
 #[test]
-fn head_lines(rt: HostRuntime) -> Result<(), Fail> {
-    let decls = decls(rt.alloc())?;
-    let mut out = Seq::new(rt.alloc());
-    heads(rt.alloc(), &decls, &mut out).ok().ok_or("no memory")?;
-    assert_eq!(rt; out.as_slice(), HEADS);
-    Ok(())
+fn states(rt: HostRuntime) {
+    assert!(rt; are_states_told(rt.alloc()).unwrap_or(false));
+}
+
+fn are_heads_told(alloc: Global) -> Option<bool> {
+    let decls = decls(alloc)?;
+    let mut out = Seq::new(alloc);
+    heads(alloc, &decls, &mut out).ok()?;
+    Some(out.as_slice() == HEADS)
+}
+
+#[test]
+fn head_lines(rt: HostRuntime) {
+    assert!(rt; are_heads_told(rt.alloc()).unwrap_or(false));
 }
 
 fn endings(alloc: Global, decls: &Decls) -> Option<Bytes> {
@@ -418,10 +444,12 @@ error too large\n\
 error lied t 2 sent 02ff got 00\n\
 ";
 
+fn are_endings_told(alloc: Global) -> Option<bool> {
+    let decls = decls(alloc)?;
+    Some(endings(alloc, &decls)?.as_slice() == ENDINGS)
+}
+
 #[test]
-fn last_lines(rt: HostRuntime) -> Result<(), Fail> {
-    let decls = decls(rt.alloc())?;
-    let out = endings(rt.alloc(), &decls).ok_or("no memory")?;
-    assert_eq!(rt; out.as_slice(), ENDINGS);
-    Ok(())
+fn last_lines(rt: HostRuntime) {
+    assert!(rt; are_endings_told(rt.alloc()).unwrap_or(false));
 }
