@@ -5,6 +5,7 @@ pub mod AskParts
 pub mod FrameParts
 pub mod TakenIn
 pub mod PullEnds
+pub mod Scans
 pub mod AnswerParts
 pub mod Written
 pub mod Going

@@ -1,10 +1,17 @@
-use Rattle.std.proofs.Common.{◌∙◌}
+use Rattle.std.proofs.Common.{sym, ◌∙◌, subst}
 use Rattle.pr_inval.specs.Standing as Standing
+use Rattle.pr_node.specs.Scanning.{IsScanOf, Scanned}
 use Rattle.pr_node.specs.Stored.{means}
+use Rattle.pr_node.proofs.Scanning.{scan_fresh}
 use Rattle.pr_serve.specs.Sinks.{sink}
 use Rattle.pr_serve.proofs.FrameParts.{is_stop}
 use Rattle.pr_serve.proofs.Going.{answer_broken, answered, begins}
 use Rattle.pr_serve.proofs.answering.answer.Goals as goal
+
+pub run-requires-clause-scan : goal.run-requires-clause-scan
+run-requires-clause-scan g c =
+    subst (λ (x : Scanned). IsScanOf x (Standing.means c.begin.new.self).standing (means c.args.node.now).journal) (sym c.new-scan.ensures)
+    (scan_fresh (Standing.means c.begin.new.self).standing (means c.args.node.now).journal)
 
 pub returns-in_err-run : goal.returns-in_err-run
 returns-in_err-run g c =

@@ -7,8 +7,8 @@ use Rattle.pr_serve.proofs.FrameParts.{is_stop}
 use Rattle.pr_serve.proofs.Going.{made_as, none_is, turn_idle, turn_stopped, turn_unwritten, turn_written}
 use Rattle.pr_serve.proofs.answering.turn.Goals as goal
 
-pub returns-in_err-msg : goal.returns-in_err-msg
-returns-in_err-msg g c left some =
+pub returns-in_err-msg-clause-turned : goal.returns-in_err-msg-clause-turned
+returns-in_err-msg-clause-turned g c left some =
     let text = g.K.Sink.text in
     let faults = g.K.Sink.faults in
     let x = means c.args.node.now in
@@ -17,10 +17,10 @@ returns-in_err-msg g c left some =
     let t = Standing.means c.next_message.new.session in
     let a = sink (text c.args.out.now) (faults c.args.out.now) in
     let fault = c.in_err-msg.field-0.0 in
-    turn_stopped x y s t a a left fault (fault_for fault) c.from_residual.result (is_stop c.from_residual.result _ (fault_for fault) c.from_residual.ensures (λ e p. p)) refl (c.in_err-msg.ensures left some)
+    turn_stopped x y s t a a left fault (fault_for fault) c.from_residual.result (is_stop c.from_residual.result _ (fault_for fault) c.from_residual.ensures (λ e p. p)) refl (c.in_err-msg.ensures.made left some)
 
-pub returns-in_default : goal.returns-in_default
-returns-in_default g c left some =
+pub returns-in_default-clause-turned : goal.returns-in_default-clause-turned
+returns-in_default-clause-turned g c left some =
     let text = g.K.Sink.text in
     let faults = g.K.Sink.faults in
     let x = means c.args.node.now in
@@ -28,10 +28,10 @@ returns-in_default g c left some =
     let s = Standing.means c.args.session.now in
     let t = Standing.means c.next_message.new.session in
     let a = sink (text c.args.out.now) (faults c.args.out.now) in
-    turn_idle x y s t a a left (made_as x y s t left c.in_ok-msg.field-0 None (none_is c.in_ok-msg.field-0 c.in_default.not-Some) (c.in_ok-msg.ensures left some))
+    turn_idle x y s t a a left (made_as x y s t left c.in_ok-msg.field-0 None (none_is c.in_ok-msg.field-0 c.in_default.not-Some) (c.in_ok-msg.ensures.made left some))
 
-pub returns-in_err-write_frame : goal.returns-in_err-write_frame
-returns-in_err-write_frame g c left some =
+pub returns-in_err-write_frame-clause-turned : goal.returns-in_err-write_frame-clause-turned
+returns-in_err-write_frame-clause-turned g c left some =
     let text = g.K.Sink.text in
     let faults = g.K.Sink.faults in
     let x = means c.args.node.now in
@@ -43,10 +43,10 @@ returns-in_err-write_frame g c left some =
     let m = c.in-Some.msg in
     let fault = c.in_err-write_frame.field-0.0 in
     turn_unwritten x y s t a b left m fault c.from_residual-in_err-write_frame.result (is_stop c.from_residual-in_err-write_frame.result _ fault c.from_residual-in_err-write_frame.ensures (λ e p. p))
-    (made_as x y s t left c.in_ok-msg.field-0 (Some m) c.in-Some.is (c.in_ok-msg.ensures left some)) c.in_err-write_frame.ensures
+    (made_as x y s t left c.in_ok-msg.field-0 (Some m) c.in-Some.is (c.in_ok-msg.ensures.made left some)) c.in_err-write_frame.ensures
 
-pub returns : goal.returns
-returns g c left some =
+pub returns-clause-turned : goal.returns-clause-turned
+returns-clause-turned g c left some =
     let text = g.K.Sink.text in
     let faults = g.K.Sink.faults in
     let x = means c.args.node.now in
@@ -56,4 +56,4 @@ returns g c left some =
     let a = sink (text c.args.out.now) (faults c.args.out.now) in
     let b = sink (text c.write_frame.new.out) (faults c.write_frame.new.out) in
     let m = c.in-Some.msg in
-    turn_written x y s t a b left m (made_as x y s t left c.in_ok-msg.field-0 (Some m) c.in-Some.is (c.in_ok-msg.ensures left some)) c.in_ok-write_frame.ensures
+    turn_written x y s t a b left m (made_as x y s t left c.in_ok-msg.field-0 (Some m) c.in-Some.is (c.in_ok-msg.ensures.made left some)) c.in_ok-write_frame.ensures
