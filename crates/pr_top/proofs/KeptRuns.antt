@@ -16,10 +16,12 @@ use Rattle.pr_story.specs.declared.entry.Entry.{Entry}
 use Rattle.pr_story.specs.History.{NodeEntry}
 use Rattle.pr_text.specs.Histories.{joined}
 use Rattle.pr_story.specs.Scripts.{JobAfterJob}
+use Rattle.pr_sim.specs.Making.{declared_of}
+use Rattle.pr_top.specs.Downs.{HasTrueDowns, TellsTrueDowns}
 use Rattle.pr_top.specs.Runs.{all_sound}
 use Rattle.pr_top.specs.Kept.{IsStoppedIn, KeepsOn, KeepsShort, placed}
 use Rattle.pr_top.specs.KeptProgress.{HasHalted, HasKeptAll, HasKeptFrom, HasStoppedAt, IsHalted, WritesHalted, break_of}
-use Rattle.pr_top.specs.Progress.{HasCome, HasStopped, IsHalt, IsHistoryOfDecls, IsMadeBy, Writes, entry_lines}
+use Rattle.pr_top.specs.Progress.{HasCome, HasStopped, IsHalt, IsHistoryOver, IsMadeBy, Writes, entry_lines}
 use Rattle.pr_top.specs.declared.keeping.Break.{Break}
 use Rattle.pr_top.specs.declared.keeping.Break.TheVariants as breaks
 use Rattle.pr_top.specs.declared.stepping.Halt.{Halt}
@@ -28,7 +30,7 @@ use Rattle.pr_top.proofs.Coming.{begun}
 use Rattle.pr_top.proofs.KeptDisks.{keeps_none, keeps_then, keeps_then_short}
 use Rattle.pr_top.proofs.KeptEntries.{placed_front, placed_long}
 use Rattle.pr_top.proofs.Lines.{lines_split}
-use Rattle.pr_top.proofs.Runs.{IsUnderWay, history_of, stop_here}
+use Rattle.pr_top.proofs.Runs.{IsUnderWay, history_of, over_of, stop_here}
 use Rattle.pr_top.proofs.Written.{appends_then, writes_then}
 
 -- ---- where the disk stopped
@@ -87,11 +89,11 @@ module _ {D : Type 0} (state : D → State) (images : D → List ℕ → Type 0)
     all_kept more = keeps_then state images moment images_since old mid now (placed (reverse h)) (placed (reverse (new ++ h))) (length h) (length (new ++ h)) (placed_front new h) before more
 
     -- an entry was not kept
-    pub not_kept : (failed : Type 0) (e f : Engine) (unmet line : Option ℕ) (told : ℕ) (rest : List Numbered) (a b : Option (List ℕ)) (broke : Break) → HasCome JobAfterJob s rest h e unmet → IsHistoryOfDecls s (new ++ h) → told ≡ length h
+    pub not_kept : (failed : Type 0) (e f : Engine) (unmet line : Option ℕ) (told : ℕ) (rest : List Numbered) (a b : Option (List ℕ)) (broke : Break) → HasCome JobAfterJob s rest h e unmet → HasTrueDowns all_sound h → IsHistoryOver all_sound s (new ++ h) → told ≡ length h
         → ((new ≡ []) ⊎ IsMadeBy JobAfterJob s h new line) → Appends a b (entry_lines s.decls.list (reverse h))
         → HasKeptFrom state images moment images_since mid now (placed (reverse (new ++ h))) told line (Err broke)
         → HasKeptAll state images moment images_since old now s failed a b f line (Err broke)
-    not_kept failed e f unmet line told rest a b broke come is told_is made written (fault, same, whole, (upto, short)) =
+    not_kept failed e f unmet line told rest a b broke come downs is told_is made written (fault, same, whole, (upto, short)) =
         subst (λ (x : Break). HasKeptAll state images moment images_since old now s failed a b f line (Err x)) (sym same) (by fault whole short)
       where
         le : length h ≤ upto
@@ -126,7 +128,7 @@ module _ {D : Type 0} (state : D → State) (images : D → List ℕ → Type 0)
             let lines : List ℕ = entry_lines s.decls.list (reverse h) in (
               h,
               record {
-                is = history_of JobAfterJob all_sound s h e halts.NoMemory (stop_here JobAfterJob all_sound s rest h e unmet come);
+                is = (history_of JobAfterJob all_sound s h e halts.NoMemory (stop_here JobAfterJob all_sound s rest h e unmet come), downs);
                 begun = begun JobAfterJob s rest h e unmet come;
                 cause = tt;
                 kept = inr (refl, (new, upto, le, joined_short faults.NoMemory k));
@@ -136,10 +138,10 @@ module _ {D : Type 0} (state : D → State) (images : D → List ℕ → Type 0)
         by (faults.Damaged at) fine k = absurd fine
 
     -- a line was not written
-    pub not_told : (failed : Type 0) (f : Engine) (line : Option ℕ) (told : ℕ) (a b c : Option (List ℕ)) (halt : Halt) → HasStopped JobAfterJob all_sound s (new ++ h) f halts.NoMemory → told ≡ length h
+    pub not_told : (failed : Type 0) (f : Engine) (line : Option ℕ) (told : ℕ) (a b c : Option (List ℕ)) (halt : Halt) → HasStopped JobAfterJob all_sound s (new ++ h) f halts.NoMemory → TellsTrueDowns all_sound (declared_of s.decls.list) f → told ≡ length h
         → Appends a b (entry_lines s.decls.list (reverse h)) → KeepsOn state images moment images_since mid now (placed (reverse (new ++ h))) (length h) (length (new ++ h))
         → Writes {X = ℕ} (entry_lines s.decls.list (drop told (reverse (new ++ h)))) failed b c (Err halt) → HasKeptAll state images moment images_since old now s failed a c f line (Err (breaks.Halted halt))
-    not_told failed f line told a b c halt stopped is written more cut = (new ++ h, halted halt all, writes halt all)
+    not_told failed f line told a b c halt stopped downs is written more cut = (new ++ h, halted halt all, writes halt all)
       where
         all : Writes {X = ℕ} (entry_lines s.decls.list (reverse (new ++ h))) failed a c (Err halt)
         all = subst (λ (t : List ℕ). Writes {X = ℕ} t failed a c (Err halt)) (lines_split s.decls.list h new told is)
@@ -152,7 +154,7 @@ module _ {D : Type 0} (state : D → State) (images : D → List ℕ → Type 0)
         cause (halts.Lied stream number sent got) w = absurd w
 
         halted : (x : Halt) → Writes {X = ℕ} (entry_lines s.decls.list (reverse (new ++ h))) failed a c (Err x) → HasHalted state images moment images_since old now s (new ++ h) x
-        halted x w = record { is = history_of JobAfterJob all_sound s (new ++ h) f halts.NoMemory stopped; begun = stopped.begun; cause = cause x w; kept = inl (all_kept more) }
+        halted x w = record { is = over_of JobAfterJob all_sound s (new ++ h) f halts.NoMemory stopped downs; begun = stopped.begun; cause = cause x w; kept = inl (all_kept more) }
 
         writes : (x : Halt) → Writes {X = ℕ} (entry_lines s.decls.list (reverse (new ++ h))) failed a c (Err x) → WritesHalted failed (entry_lines s.decls.list (reverse (new ++ h))) a c x
         writes halts.NoMemory w = w
@@ -161,12 +163,12 @@ module _ {D : Type 0} (state : D → State) (images : D → List ℕ → Type 0)
         writes (halts.Lied stream number sent got) w = absurd w
 
     -- the step itself halted, and its entries were kept and told
-    pub step_halted : (failed : Type 0) (f : Engine) (line : Option ℕ) (told : ℕ) (a b c : Option (List ℕ)) (halt : Halt) → HasStopped JobAfterJob all_sound s (new ++ h) f halt → told ≡ length h
+    pub step_halted : (failed : Type 0) (f : Engine) (line : Option ℕ) (told : ℕ) (a b c : Option (List ℕ)) (halt : Halt) → HasStopped JobAfterJob all_sound s (new ++ h) f halt → TellsTrueDowns all_sound (declared_of s.decls.list) f → told ≡ length h
         → Appends a b (entry_lines s.decls.list (reverse h)) → KeepsOn state images moment images_since mid now (placed (reverse (new ++ h))) (length h) (length (new ++ h))
         → Appends b c (entry_lines s.decls.list (drop told (reverse (new ++ h)))) → HasKeptAll state images moment images_since old now s failed a c f line (Err (breaks.Halted halt))
-    step_halted failed f line told a b c halt stopped is written more rest = (
+    step_halted failed f line told a b c halt stopped downs is written more rest = (
       new ++ h,
-      record { is = history_of JobAfterJob all_sound s (new ++ h) f halt stopped; begun = stopped.begun; cause = cause halt stopped.cause; kept = inl (all_kept more) },
+      record { is = over_of JobAfterJob all_sound s (new ++ h) f halt stopped downs; begun = stopped.begun; cause = cause halt stopped.cause; kept = inl (all_kept more) },
       writes halt stopped.cause,
     )
       where

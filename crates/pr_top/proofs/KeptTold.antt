@@ -15,9 +15,10 @@ use Rattle.pr_text.specs.Histories.{IsRunOf, transcript_text}
 use Rattle.pr_text.specs.Numbers.{counts_of}
 use Rattle.pr_text.specs.Transcripts.{lines_text, plan_of}
 use Rattle.pr_text.proofs.Runs.{runs_give}
+use Rattle.pr_top.specs.Downs.{HasTrueDowns}
 use Rattle.pr_top.specs.Kept.{KeepsOn, placed}
 use Rattle.pr_top.specs.KeptProgress.{EndsHalted, HasEndedSo, HasHalted, HasKeptAll, HasKeptTold, IsHalted, KeepsEnded, KeepsHalted, TellsHalted, WritesHalted}
-use Rattle.pr_top.specs.Progress.{HasCome, HasTold, IsExpected, Writes, entry_lines}
+use Rattle.pr_top.specs.Progress.{HasCome, HasTold, IsExpected, IsHistoryOver, Writes, entry_lines}
 use Rattle.pr_top.specs.Runs.{all_sound, HasRun, WritesLine, told_text}
 use Rattle.pr_top.specs.Unended.{TellsEnd}
 use Rattle.pr_top.specs.declared.keeping.Break.{Break}
@@ -63,7 +64,7 @@ module _ {D : Type 0} (state : D → State) (images : D → List ℕ → Type 0)
   -- ---- the head lines
 
   nothing_halted : (s : Script) (keep : Keep D) (halt : Halt) → IsHalted [] halt → KeepsOn state images moment images_since keep keep [] 0 0 → HasHalted state images moment images_since keep keep s [] halt
-  nothing_halted s keep halt cause none = record { is = record { valid = tt; declared = tt }; begun = no_run JobAfterJob all_sound s; cause = cause; kept = inl none }
+  nothing_halted s keep halt cause none = record { is = (record { valid = tt; declared = tt }, λ all. tt); begun = no_run JobAfterJob all_sound s; cause = cause; kept = inl none }
 
   pub heads_broke : (X : Type 0) (failed : Type 0) (s : Script) (a b : Option (List ℕ)) (halt : Halt) (keep : Keep D) → KeepsOn state images moment images_since keep keep [] 0 0
       → Writes {X = X} (heads_text s.decls.list) failed a b (Err halt) → HasKeptTold state images moment images_since keep keep s failed a b (Err (breaks.Halted halt))
@@ -93,13 +94,16 @@ module _ {D : Type 0} (state : D → State) (images : D → List ℕ → Type 0)
 
   -- ---- the `ok` line
 
-  module _ (s : Script) (h : List NodeEntry) (e : Engine) (unmet : Option ℕ) (k : HasCome JobAfterJob s [] h e unmet) (a b c d : Option (List ℕ)) (p : Appends a b (heads_text s.decls.list)) (q : Appends b c (entry_lines s.decls.list (reverse h)))
+  module _ (s : Script) (h : List NodeEntry) (e : Engine) (unmet : Option ℕ) (k : HasCome JobAfterJob s [] h e unmet) (downs : HasTrueDowns all_sound h) (a b c d : Option (List ℕ)) (p : Appends a b (heads_text s.decls.list)) (q : Appends b c (entry_lines s.decls.list (reverse h)))
       (old new : Keep D) (kept : KeepsOn state images moment images_since old new (placed (reverse h)) 0 (length h)) (failed : Type 0) where
     told_all : Appends a c (told_text s h)
     told_all = subst (λ (t : List ℕ). Appends a c t) (told_is s h) (appends_then a b c (heads_text s.decls.list) (entry_lines s.decls.list (reverse h)) p q)
 
+    is_over : IsHistoryOver all_sound s h
+    is_over = (history_of JobAfterJob all_sound s h e halts.NoMemory (stop_here JobAfterJob all_sound s [] h e unmet k), downs)
+
     halted_here : (halt : Halt) → IsHalted h halt → HasHalted state images moment images_since old new s h halt
-    halted_here halt cause = record { is = history_of JobAfterJob all_sound s h e halts.NoMemory (stop_here JobAfterJob all_sound s [] h e unmet k); begun = begun JobAfterJob s [] h e unmet k; cause = cause; kept = inl kept }
+    halted_here halt cause = record { is = is_over; begun = begun JobAfterJob s [] h e unmet k; cause = cause; kept = inl kept }
 
     pub end_broke : (X : Type 0) (halt : Halt) → Writes {X = X} (ok_line (length s.decls.list + length h)) failed c d (Err halt) → (halt ≡ halts.NoMemory → d ≡ c) → HasKeptTold state images moment images_since old new s failed a d (Err (breaks.Halted halt))
     end_broke X halts.NoMemory w same =
@@ -118,11 +122,11 @@ module _ {D : Type 0} (state : D → State) (images : D → List ℕ → Type 0)
         all = subst (λ (t : List ℕ). Appends a d t) (whole_is s h) (appends_then a c d (told_text s h) (ok_line (length s.decls.list + length h)) told_all w)
 
         by : (y : Option Expected) (o : Option ℕ) → IsRunOf JobAfterJob s h o → IsExpected o y → HasKeptTold state images moment images_since old new s failed a d (Ok y)
-        by None None runs is = (h, history_of JobAfterJob all_sound s h e halts.NoMemory (stop_here JobAfterJob all_sound s [] h e unmet k), runs, all, kept)
+        by None None runs is = (h, is_over, runs, all, kept)
         by None (Some line) runs is = absurd is
         by (Some y) None runs is = absurd is
         by (Some y) (Some line) runs (same, text) =
-            (h, history_of JobAfterJob all_sound s h e halts.NoMemory (stop_here JobAfterJob all_sound s [] h e unmet k), subst (λ (l : ℕ). IsRunOf JobAfterJob s h (Some l)) (sym same) runs, text ∙ ap (λ (l : ℕ). unmet_line l) (sym same), all, kept)
+            (h, is_over, subst (λ (l : ℕ). IsRunOf JobAfterJob s h (Some l)) (sym same) runs, text ∙ ap (λ (l : ℕ). unmet_line l) (sym same), all, kept)
 
   -- ---- the end
 
@@ -130,8 +134,9 @@ module _ {D : Type 0} (state : D → State) (images : D → List ℕ → Type 0)
   ends_ok failed s a b old new (h, is, runs, told, kept) = (
     record {
       h = h;
-      headline = headline (plan_of s.decls.list) (counts_of s.decls.list) h is;
+      headline = headline (plan_of s.decls.list) (counts_of s.decls.list) h is.0;
       ends = runs;
+      downs = is.1;
       text = transcript_text s.decls.list h;
       written = refl;
       told = told;
@@ -145,8 +150,9 @@ module _ {D : Type 0} (state : D → State) (images : D → List ℕ → Type 0)
       let all = line_then later now a b c (transcript_text s.decls.list h) (unmet_line x.line) f told (subst (λ (t : List ℕ). WritesLine later t b c) text line) in (
         record {
           h = h;
-          headline = headline (plan_of s.decls.list) (counts_of s.decls.list) h is;
+          headline = headline (plan_of s.decls.list) (counts_of s.decls.list) h is.0;
           ends = runs;
+          downs = is.1;
           text = transcript_text s.decls.list h ++ all.0;
           written = (all.0, all.1, refl);
           told = all.2;
@@ -175,8 +181,9 @@ module _ {D : Type 0} (state : D → State) (images : D → List ℕ → Type 0)
       (subst (λ (o : Option (List ℕ)). HasEndedSo state images moment images_since old new s now a o (ends.Ended status.WriteFault)) (sym same) (
         record {
           h = h;
-          headline = headline (plan_of s.decls.list) (counts_of s.decls.list) h halted.is;
+          headline = headline (plan_of s.decls.list) (counts_of s.decls.list) h halted.is.0;
           ends = halted.begun;
+          downs = halted.is.1;
           text = text;
           written = (g bad, written);
           told = told;
@@ -189,8 +196,9 @@ module _ {D : Type 0} (state : D → State) (images : D → List ℕ → Type 0)
       subst (λ (x : KeptEnd). HasEndedSo state images moment images_since old new s now a c x) (sym is) (
         record {
           h = h;
-          headline = headline (plan_of s.decls.list) (counts_of s.decls.list) h halted.is;
+          headline = headline (plan_of s.decls.list) (counts_of s.decls.list) h halted.is.0;
           ends = (halted.begun, (halted.cause.0, halted.cause.1, tt));
+          downs = halted.is.1;
           text = told_text s h ++ all.0;
           written = (all.0, all.1, refl);
           told = all.2;
@@ -204,8 +212,9 @@ module _ {D : Type 0} (state : D → State) (images : D → List ℕ → Type 0)
       subst (λ (x : KeptEnd). HasEndedSo state images moment images_since old new s now a c x) (sym is) (
         record {
           h = h;
-          headline = headline (plan_of s.decls.list) (counts_of s.decls.list) h halted.is;
+          headline = headline (plan_of s.decls.list) (counts_of s.decls.list) h halted.is.0;
           ends = halted.begun;
+          downs = halted.is.1;
           text = take n (told_text s h) ++ all.0;
           written = (all.0, all.1, (n, refl));
           told = all.2;
@@ -221,6 +230,7 @@ module _ {D : Type 0} (state : D → State) (images : D → List ℕ → Type 0)
           h = [];
           headline = headline (plan_of s.decls.list) (counts_of s.decls.list) [] (record { valid = tt; declared = tt });
           ends = no_run JobAfterJob all_sound s;
+          downs = λ all. tt;
           text = take 0 (told_text s []) ++ all.0;
           written = (all.0, all.1, (0, refl));
           told = all.2;

@@ -8,6 +8,7 @@ pub mod Coming
 pub mod Singles
 pub mod Steps
 pub mod Threads
+pub mod Downs
 pub mod Carried
 pub mod Promised
 pub mod Written

@@ -36,7 +36,7 @@ short_worn : (later now : Type 0) (failed : Type 0) (s : Script) (at : ℕ) (a b
 short_worn later now failed s at a b c f (h, (is, begun, (cause, told))) line =
     let all = line_then later now a b c (told_text s h) (error_line (codes "worn")) f told line in record {
       h = h;
-      headline = headline (plan_of s.decls.list) (counts_of s.decls.list) h is;
+      headline = headline (plan_of s.decls.list) (counts_of s.decls.list) h is.0;
       begun = begun;
       text = told_text s h ++ all.0;
       written = (cause.0, cause.1, (all.0, all.1, refl));
@@ -48,7 +48,7 @@ short_memory : (later now : Type 0) (failed : Type 0) (s : Script) (a b c : Opti
 short_memory later now failed s a b c f (h, (is, begun, (n, told))) line =
     let all = line_then later now a b c (take n (told_text s h)) (error_line (codes "no memory")) f told line in record {
       h = h;
-      headline = headline (plan_of s.decls.list) (counts_of s.decls.list) h is;
+      headline = headline (plan_of s.decls.list) (counts_of s.decls.list) h is.0;
       begun = begun;
       text = take n (told_text s h) ++ all.0;
       written = (all.0, all.1, (n, refl));
@@ -58,7 +58,7 @@ short_memory later now failed s a b c f (h, (is, begun, (n, told))) line =
 short_fault : (failed : Type 0) (s : Script) (a b : Option (List ℕ)) → HasRunUnended JobAfterJob all_sound s failed a b (Err halts.WriteFault) → HasStoppedShort status.WriteFault s failed a b
 short_fault failed s a b (h, (is, begun, (bad, (n, told)))) = record {
   h = h;
-  headline = headline (plan_of s.decls.list) (counts_of s.decls.list) h is;
+  headline = headline (plan_of s.decls.list) (counts_of s.decls.list) h is.0;
   begun = begun;
   text = take n (told_text s h);
   written = (bad, (n, refl));

@@ -18,7 +18,8 @@ use Rattle.pr_text.specs.Steps.{lines_of}
 use Rattle.pr_text.specs.Transcripts.{lines_text, plan_of}
 use Rattle.pr_text.specs.Numbers.{counts_of}
 use Rattle.pr_text.proofs.Runs.{runs_give}
-use Rattle.pr_top.specs.Progress.{HasCome, HasRunAll, HasStepped, HasStopped, HasTold, IsExpected, IsHistoryOfDecls, IsMadeBy, Writes, entry_lines}
+use Rattle.pr_top.specs.Downs.{AddsTrueDowns, HasTrueDowns, TellsTrueDowns}
+use Rattle.pr_top.specs.Progress.{HasCome, HasRunAll, HasStepped, HasStopped, HasTold, IsExpected, IsHistoryOfDecls, IsHistoryOver, IsMadeBy, Writes, entry_lines}
 use Rattle.pr_top.specs.Runs.{HasRunTo, IsLine, WritesLine, told_text}
 use Rattle.pr_top.specs.declared.running.Expected.{Expected}
 use Rattle.pr_top.specs.declared.status.Status.{Status}
@@ -28,6 +29,7 @@ use Rattle.pr_top.specs.declared.stepping.Halt.TheVariants as halts
 use Rattle.pr_top.specs.declared.stepping.Run.{Run}
 use Rattle.pr_top.specs.Unended.{HasBegunWell, HasRunUnended, HasRunUnendedTo, TellsEnd, TellsHalt}
 use Rattle.pr_top.proofs.Coming.{begun, ended}
+use Rattle.pr_top.proofs.Downs.{downs_of, next_downs}
 use Rattle.pr_top.proofs.Lines.{lines_split}
 use Rattle.pr_top.proofs.Promised.{headline}
 use Rattle.pr_top.proofs.Written.{appends_none, appends_then, front_of, lines_are, writes_then}
@@ -137,6 +139,9 @@ module _ (order : Order) (sound : ℕ → Bool) where
   pub history_of : (s : Script) (h : List NodeEntry) (e : Engine) (halt : Halt) → HasStopped order sound s h e halt → IsHistoryOfDecls s h
   history_of s h e halt k = record { valid = k.tells.told.valid; declared = k.tells.speaks }
 
+  pub over_of : (s : Script) (h : List NodeEntry) (e : Engine) (halt : Halt) → HasStopped order sound s h e halt → TellsTrueDowns sound (declared_of s.decls.list) e → IsHistoryOver sound s h
+  over_of s h e halt k downs = (history_of s h e halt k, downs_of sound (declared_of s.decls.list) h e k.tells downs)
+
   -- nothing was run
   pub no_run : (s : Script) → HasBegun order s []
   no_run s = nothing_begins.lines order (streams_of s.decls.list) (λ t. false) (lines_of s.commands)
@@ -145,10 +150,10 @@ module _ (order : Order) (sound : ℕ → Bool) where
   pub heads_cut : (X : Type 0) (failed : Type 0) (s : Script) (a b : Option (List ℕ)) (halt : Halt) → Writes {X = X} (heads_text s.decls.list) failed a b (Err halt) → HasRunUnended order sound s failed a b (Err halt)
   heads_cut X failed s a b halts.NoMemory (n, p) =
       let m = front_of n (heads_text s.decls.list) [] in
-      ([], (record { valid = tt; declared = tt }, no_run s, (m.0, subst (λ (t : List ℕ). Appends a b t) m.1 p)))
+      ([], ((record { valid = tt; declared = tt }, λ all. tt), no_run s, (m.0, subst (λ (t : List ℕ). Appends a b t) m.1 p)))
   heads_cut X failed s a b halts.WriteFault (bad, (n, p)) =
       let m = front_of n (heads_text s.decls.list) [] in
-      ([], (record { valid = tt; declared = tt }, no_run s, (bad, (m.0, subst (λ (t : List ℕ). Appends a b t) m.1 p))))
+      ([], ((record { valid = tt; declared = tt }, λ all. tt), no_run s, (bad, (m.0, subst (λ (t : List ℕ). Appends a b t) m.1 p))))
   heads_cut X failed s a b (halts.Worn at) p = absurd p
   heads_cut X failed s a b (halts.Lied stream number sent got) p = absurd p
 
@@ -159,34 +164,34 @@ module _ (order : Order) (sound : ℕ → Bool) where
   -- a run that came to its end has come so far
   pub ends_well : (failed : Type 0) (s : Script) (a b : Option (List ℕ)) (r : Result Run Halt) → HasRunUnended order sound s failed a b r
       → IfOk r (λ (run : Run). (o : Order) × (h : List NodeEntry) × HasCome o s [] h run.engine run.unmet)
-  ends_well failed s a b (Ok run) (h, (come, told)) = (order, h, come)
+  ends_well failed s a b (Ok run) (h, (come, downs, told)) = (order, h, come)
   ends_well failed s a b (Err halt) told = tt
 
   pub run_cut : (failed now : Type 0) (s : Script) (e : Engine) (unmet : Option ℕ) (a b c : Option (List ℕ)) (halt : Halt) → (failed → now)
-      → Appends a b (heads_text s.decls.list) → HasRunAll order sound s failed b c e unmet (Err halt) → HasRunUnended order sound s now a c (Err halt)
-  run_cut failed now s e unmet a b c (halts.Worn at) f p (h, stopped, q) =
-      (h, (history_of s h e (halts.Worn at) stopped, stopped.begun, (stopped.cause, subst (λ (t : List ℕ). Appends a c t) (told_is s h) (appends_then a b c (heads_text s.decls.list) (entry_lines s.decls.list (reverse h)) p q))))
-  run_cut failed now s e unmet a b c (halts.Lied stream number sent got) f p (h, stopped, q) =
-      (h, (history_of s h e (halts.Lied stream number sent got) stopped, stopped.begun, (stopped.cause, subst (λ (t : List ℕ). Appends a c t) (told_is s h) (appends_then a b c (heads_text s.decls.list) (entry_lines s.decls.list (reverse h)) p q))))
-  run_cut failed now s e unmet a b c halts.NoMemory f p (h, stopped, cut) = (
+      → Appends a b (heads_text s.decls.list) → TellsTrueDowns sound (declared_of s.decls.list) e → HasRunAll order sound s failed b c e unmet (Err halt) → HasRunUnended order sound s now a c (Err halt)
+  run_cut failed now s e unmet a b c (halts.Worn at) f p downs (h, stopped, q) =
+      (h, (over_of s h e (halts.Worn at) stopped downs, stopped.begun, (stopped.cause, subst (λ (t : List ℕ). Appends a c t) (told_is s h) (appends_then a b c (heads_text s.decls.list) (entry_lines s.decls.list (reverse h)) p q))))
+  run_cut failed now s e unmet a b c (halts.Lied stream number sent got) f p downs (h, stopped, q) =
+      (h, (over_of s h e (halts.Lied stream number sent got) stopped downs, stopped.begun, (stopped.cause, subst (λ (t : List ℕ). Appends a c t) (told_is s h) (appends_then a b c (heads_text s.decls.list) (entry_lines s.decls.list (reverse h)) p q))))
+  run_cut failed now s e unmet a b c halts.NoMemory f p downs (h, stopped, cut) = (
     h,
     (
-      history_of s h e halts.NoMemory stopped,
+      over_of s h e halts.NoMemory stopped downs,
       stopped.begun,
       subst (λ (t : List ℕ). Writes {X = ℕ} t now a c (Err halts.NoMemory)) (told_is s h)
           (writes_then ℕ now a b c (heads_text s.decls.list) (entry_lines s.decls.list (reverse h)) (Err halts.NoMemory) p cut),
     ),
   )
-  run_cut failed now s e unmet a b c halts.WriteFault f p (bad, (h, stopped, cut)) =
+  run_cut failed now s e unmet a b c halts.WriteFault f p downs (bad, (h, stopped, cut)) =
       let all = subst (λ (t : List ℕ). Writes {X = ℕ} t now a c (Err halts.WriteFault)) (told_is s h)
       (writes_then ℕ now a b c (heads_text s.decls.list) (entry_lines s.decls.list (reverse h)) (Err halts.WriteFault) p (f bad, cut)) in
-      (h, (history_of s h e halts.NoMemory stopped, stopped.begun, all))
+      (h, (over_of s h e halts.NoMemory stopped downs, stopped.begun, all))
 
   -- all commands were run
-  pub run_whole : (failed : Type 0) (s : Script) (h : List NodeEntry) (run : Run) (a b c : Option (List ℕ)) → HasCome order s [] h run.engine run.unmet
+  pub run_whole : (failed : Type 0) (s : Script) (h : List NodeEntry) (run : Run) (a b c : Option (List ℕ)) → HasCome order s [] h run.engine run.unmet → HasTrueDowns sound h
       → Appends a b (heads_text s.decls.list) → Appends b c (entry_lines s.decls.list (reverse h)) → HasRunUnendedTo order sound s h failed a c (Ok run)
-  run_whole failed s h run a b c k p q =
-      (k, subst (λ (t : List ℕ). Appends a c t) (told_is s h) (appends_then a b c (heads_text s.decls.list) (entry_lines s.decls.list (reverse h)) p q))
+  run_whole failed s h run a b c k downs p q =
+      (k, downs, subst (λ (t : List ℕ). Appends a c t) (told_is s h) (appends_then a b c (heads_text s.decls.list) (entry_lines s.decls.list (reverse h)) p q))
 
   -- a run that stopped has no `ok` line
   pub unended_stops : (failed : Type 0) (s : Script) (h : List NodeEntry) (a b : Option (List ℕ)) (halt : Halt) → HasRunUnendedTo order sound s h failed a b (Err halt) → HasTold order sound s h failed a b (Err halt)
@@ -196,9 +201,12 @@ module _ (order : Order) (sound : ℕ → Bool) where
   unended_stops failed s h a b halts.WriteFault (is, part, (bad, (n, told))) = (is, part, (take n (told_text s h), (bad, (n, inl refl)), told))
 
   -- the `ok` line follows
-  module _ (s : Script) (h : List NodeEntry) (e : Engine) (unmet : Option ℕ) (k : HasCome order s [] h e unmet) (a c : Option (List ℕ)) (told : Appends a c (told_text s h)) where
+  module _ (s : Script) (h : List NodeEntry) (e : Engine) (unmet : Option ℕ) (k : HasCome order s [] h e unmet) (downs : HasTrueDowns sound h) (a c : Option (List ℕ)) (told : Appends a c (told_text s h)) where
     stopped : HasStopped order sound s h e halts.NoMemory
     stopped = stop_here s [] h e unmet k
+
+    is_over : IsHistoryOver sound s h
+    is_over = (history_of s h e halts.NoMemory stopped, downs)
 
     whole : told_text s h ++ ok_line (length s.decls.list + length h) ≡ transcript_text s.decls.list h
     whole = append_assoc (heads_text s.decls.list) (lines_text s.decls.list h) (ok_line (length s.decls.list + length h))
@@ -211,17 +219,17 @@ module _ (order : Order) (sound : ℕ → Bool) where
         all = subst (λ (t : List ℕ). Appends a d t) whole (appends_then a c d (told_text s h) (ok_line (length s.decls.list + length h)) told written)
 
         by : (y : Option Expected) (o : Option ℕ) → IsRunOf order s h o → IsExpected o y → HasTold order sound s h failed a d (Ok y)
-        by None None runs is = (history_of s h e halts.NoMemory stopped, runs, all)
+        by None None runs is = (is_over, runs, all)
         by None (Some line) runs is = absurd is
         by (Some y) None runs is = absurd is
         by (Some y) (Some line) runs (same, text) =
-            (history_of s h e halts.NoMemory stopped, subst (λ (l : ℕ). IsRunOf order s h (Some l)) (sym same) runs, text ∙ ap (λ (l : ℕ). unmet_line l) (sym same), all)
+            (is_over, subst (λ (l : ℕ). IsRunOf order s h (Some l)) (sym same) runs, text ∙ ap (λ (l : ℕ). unmet_line l) (sym same), all)
     end_told failed d (Err halts.NoMemory) written expected kept =
         let text : List ℕ = told_text s h in
-        (history_of s h e halts.NoMemory stopped, stopped.begun, (length text, subst (λ (o : Option (List ℕ)). Appends a o (take (length text) text)) (sym (kept refl)) (subst (λ (t : List ℕ). Appends a c t) (sym (take_all (length text) text (omega arith))) told)))
+        (is_over, stopped.begun, (length text, subst (λ (o : Option (List ℕ)). Appends a o (take (length text) text)) (sym (kept refl)) (subst (λ (t : List ℕ). Appends a c t) (sym (take_all (length text) text (omega arith))) told)))
     end_told failed d (Err halts.WriteFault) written expected kept =
         let cut = subst (λ (t : List ℕ). Writes {X = ℕ} t failed a d (Err halts.WriteFault)) whole (writes_then ℕ failed a c d (told_text s h) (ok_line (length s.decls.list + length h)) (Err halts.WriteFault) told written) in (
-          history_of s h e halts.NoMemory stopped,
+          is_over,
           stopped.begun,
           (take cut.1.0 (transcript_text s.decls.list h), (cut.0, (cut.1.0, inr (runs_give order s h unmet (ended order s h e unmet k), refl))), cut.1.1),
         )
@@ -234,8 +242,9 @@ module _ (order : Order) (sound : ℕ → Bool) where
   run_ok failed s h a b (is, runs, told) = (
     record {
       h = h;
-      headline = headline (plan_of s.decls.list) (counts_of s.decls.list) h is;
+      headline = headline (plan_of s.decls.list) (counts_of s.decls.list) h is.0;
       ends = runs;
+      downs = is.1;
       text = transcript_text s.decls.list h;
       written = refl;
       told = told;
@@ -248,8 +257,9 @@ module _ (order : Order) (sound : ℕ → Bool) where
       let all = line_then later now a b c (transcript_text s.decls.list h) (unmet_line x.line) f told (subst (λ (t : List ℕ). WritesLine later t b c) text line) in (
         record {
           h = h;
-          headline = headline (plan_of s.decls.list) (counts_of s.decls.list) h is;
+          headline = headline (plan_of s.decls.list) (counts_of s.decls.list) h is.0;
           ends = runs;
+          downs = is.1;
           text = transcript_text s.decls.list h ++ all.0;
           written = (all.0, all.1, refl);
           told = all.2;
@@ -269,8 +279,9 @@ module _ (order : Order) (sound : ℕ → Bool) where
   run_fault failed s h a b (is, begun, (text, written, told)) = (
     record {
       h = h;
-      headline = headline (plan_of s.decls.list) (counts_of s.decls.list) h is;
+      headline = headline (plan_of s.decls.list) (counts_of s.decls.list) h is.0;
       ends = begun;
+      downs = is.1;
       text = text;
       written = written;
       told = told;
@@ -283,8 +294,9 @@ module _ (order : Order) (sound : ℕ → Bool) where
       let all = line_then later now a b c (told_text s h) (error_line (codes "worn")) f told line in (
         record {
           h = h;
-          headline = headline (plan_of s.decls.list) (counts_of s.decls.list) h is;
+          headline = headline (plan_of s.decls.list) (counts_of s.decls.list) h is.0;
           ends = (begun, cause);
+          downs = is.1;
           text = told_text s h ++ all.0;
           written = (all.0, all.1, refl);
           told = all.2;
@@ -297,8 +309,9 @@ module _ (order : Order) (sound : ℕ → Bool) where
       let all = line_then later now a b c (take n (told_text s h)) (error_line (codes "no memory")) f told line in (
         record {
           h = h;
-          headline = headline (plan_of s.decls.list) (counts_of s.decls.list) h is;
+          headline = headline (plan_of s.decls.list) (counts_of s.decls.list) h is.0;
           ends = begun;
+          downs = is.1;
           text = take n (told_text s h) ++ all.0;
           written = (all.0, all.1, (n, refl));
           told = all.2;
@@ -312,8 +325,9 @@ module _ (order : Order) (sound : ℕ → Bool) where
       let all = line_then later now a b c (told_text s h) (error_line (lied_cause s.decls.list stream number sent got)) f told line in (
         record {
           h = h;
-          headline = headline (plan_of s.decls.list) (counts_of s.decls.list) h is;
+          headline = headline (plan_of s.decls.list) (counts_of s.decls.list) h is.0;
           ends = (begun, cause);
+          downs = is.1;
           text = told_text s h ++ all.0;
           written = (all.0, all.1, refl);
           told = all.2;
@@ -362,6 +376,11 @@ module _ (order : Order) (sound : ℕ → Bool) where
         by : (x : Result ℕ Halt) → HasStepped order sound s (first ∷ take (length list - (at + 1)) (drop (at + 1) list)) w.h f v x → (new : List NodeEntry) × HasStopped order sound s (new ++ w.h) f halts.NoMemory × ((new ≡ []) ⊎ IsMadeBy order s w.h new v)
         by (Ok n) went = (went.1.0, stop_here s (drop (n + 1) (first ∷ take (length list - (at + 1)) (drop (at + 1) list))) (went.1.0 ++ w.h) f v went.1.1, went.1.2)
         by (Err halt) (new, stopped, made) = (new, record { tells = stopped.tells; begun = stopped.begun; cause = tt }, inr made)
+
+    -- each down so far has its true cause
+    pub downs_now : (now : ℕ → Bool) → now ≡ sound → ((h : List NodeEntry) → HasCome order s (first ∷ take (length list - (at + 1)) (drop (at + 1) list)) h e u → AddsTrueDowns now (declared_of s.decls.list) h f)
+        → TellsTrueDowns sound (declared_of s.decls.list) e → TellsTrueDowns sound (declared_of s.decls.list) f
+    downs_now now over adds sofar = next_downs order s sound now at (first ∷ take (length list - (at + 1)) (drop (at + 1) list)) w.h e f u over w.come rest_is adds sofar
 
     pub halted_now : (halt : Halt) → r ≡ Err halt → (new : List NodeEntry) × HasStopped order sound s (new ++ w.h) f halt
     halted_now halt ended =

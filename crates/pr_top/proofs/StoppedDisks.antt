@@ -120,7 +120,7 @@ can_resume stop s d lines unmet a b most k =
     let later = made_before s k.kept k.held.made unmet k.held.stopped in
     let calls = k.held.calls in
     record {
-      is = history_before (plan_of s.decls.list) (counts_of s.decls.list) later.0 k.kept (subst (λ (es : List NodeEntry). IsHistory (plan_of s.decls.list) (counts_of s.decls.list) es) later.1 k.held.is);
+      is = history_before (plan_of s.decls.list) (counts_of s.decls.list) later.0 k.kept (subst (λ (es : List NodeEntry). IsHistory (plan_of s.decls.list) (counts_of s.decls.list) es) later.1 k.held.is.0);
       keepable = k.stands.each;
       few = omega (arith, calls, most);
     }

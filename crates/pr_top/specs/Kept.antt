@@ -17,7 +17,7 @@ use Rattle.pr_story.specs.Scripts.{JobAfterJob, LineBegins}
 use Rattle.pr_text.specs.Heads.{heads_text}
 use Rattle.pr_text.specs.Histories.{EachGives, attached_by, joined, streams_of, unmet_from}
 use Rattle.pr_text.specs.Steps.{step_line}
-use Rattle.pr_top.specs.Progress.{IsHistoryOfDecls, entry_lines}
+use Rattle.pr_top.specs.Progress.{IsHistoryOver, entry_lines}
 use Rattle.pr_top.specs.Runs.{all_sound, HasRun}
 use Rattle.pr_top.specs.declared.keeping.KeptEnd.{KeptEnd}
 use Rattle.pr_top.specs.declared.keeping.KeptEnd.TheVariants as ends
@@ -128,7 +128,7 @@ module _ {D : Type 0} (state : D → State) (images : D → List ℕ → Type 0)
   HasStoppedKept old new lines unmet s before now =
       HasRisen (state old).faults (state new).faults
       × (((lines ≡ 0) × (unmet ≡ None) × Appends before now [] × HasMadeNone old new Failed)
-      ⊎ ((kept : List NodeEntry) × (made : List NodeEntry) × IsStoppedIn s kept made unmet × IsHistoryOfDecls s made
+      ⊎ ((kept : List NodeEntry) × (made : List NodeEntry) × IsStoppedIn s kept made unmet × IsHistoryOver all_sound s made
       × StopsOn old new kept made
       × ((told : ℕ) × (told ≤ length kept) × (lines ≡ min (length s.decls.list + told) 18446744073709551615)
       × Appends before now (heads_text s.decls.list ++ entry_lines s.decls.list (take told (reverse kept))))))

@@ -16,7 +16,7 @@ use Rattle.pr_text.specs.Endings.{error_line, unmet_line}
 use Rattle.pr_text.specs.Heads.{heads_text}
 use Rattle.pr_text.specs.Histories.{HasBegun, IsRunOf, transcript_text}
 use Rattle.pr_top.specs.Kept.{IsStoppedIn, KeepsOn, KeepsShort, placed}
-use Rattle.pr_top.specs.Progress.{HasCome, IsHistoryOfDecls, entry_lines}
+use Rattle.pr_top.specs.Progress.{HasCome, IsHistoryOver, entry_lines}
 use Rattle.pr_top.specs.Runs.{all_sound, HasRun, IsWritten, WritesLine, told_text}
 use Rattle.pr_top.specs.Unended.{TellsHalt}
 use Rattle.pr_top.specs.declared.keeping.Break.{Break}
@@ -85,7 +85,7 @@ module _ {D : Type 0} (state : D → State) (images : D → List ℕ → Type 0)
 
   -- the run halted behind this history, of which all entries were kept
   pub record HasHalted (old new : Keep D) (s : Script) (h : List NodeEntry) (halt : Halt) : Type 0 where
-    pub is : IsHistoryOfDecls s h
+    pub is : IsHistoryOver all_sound s h
     pub begun : HasBegun JobAfterJob s h
     pub cause : IsHalted h halt
     pub kept : KeepsHalted old new h halt
@@ -94,7 +94,7 @@ module _ {D : Type 0} (state : D → State) (images : D → List ℕ → Type 0)
   pub record HasStoppedAt (old new : Keep D) (s : Script) (kept : List NodeEntry) (told : ℕ) (unmet : Option ℕ) : Type 0 where
     pub made : List NodeEntry
     pub stopped : IsStoppedIn s kept made unmet
-    pub is : IsHistoryOfDecls s made
+    pub is : IsHistoryOver all_sound s made
     pub front : reverse kept ≡ take (length kept) (reverse made)
     pub short : KeepsShort state images moment images_since old new (placed (reverse made)) 0 (length kept) faults.Failed
     pub within : told ≤ length kept
@@ -112,10 +112,10 @@ module _ {D : Type 0} (state : D → State) (images : D → List ℕ → Type 0)
   -- the same with the head lines and the `ok` line
   abbrev pub HasKeptTold : Keep D → Keep D → Script → Type 0 → Option (List ℕ) → Option (List ℕ) → Result (Option Expected) Break → Type 0
   HasKeptTold old new s failed before now (Ok None) =
-      (h : List NodeEntry) × IsHistoryOfDecls s h × IsRunOf JobAfterJob s h None × Appends before now (transcript_text s.decls.list h)
+      (h : List NodeEntry) × IsHistoryOver all_sound s h × IsRunOf JobAfterJob s h None × Appends before now (transcript_text s.decls.list h)
       × KeepsOn state images moment images_since old new (placed (reverse h)) 0 (length h)
   HasKeptTold old new s failed before now (Ok (Some x)) =
-      (h : List NodeEntry) × IsHistoryOfDecls s h × IsRunOf JobAfterJob s h (Some x.line) × (x.text ≡ unmet_line x.line)
+      (h : List NodeEntry) × IsHistoryOver all_sound s h × IsRunOf JobAfterJob s h (Some x.line) × (x.text ≡ unmet_line x.line)
       × Appends before now (transcript_text s.decls.list h) × KeepsOn state images moment images_since old new (placed (reverse h)) 0 (length h)
   HasKeptTold old new s failed before now (Err (breaks.Halted halt)) =
       (h : List NodeEntry) × HasHalted old new s h halt × TellsHalted s failed h before now halt

@@ -1,5 +1,6 @@
 pub mod Sizes
 pub mod Headline
+pub mod Downs
 pub mod Runs
 pub mod Reading
 pub mod Progress

@@ -11,7 +11,7 @@ use Rattle.pr_text.specs.Numbers.{counts_of, nodes_of}
 use Rattle.pr_text.specs.Transcripts.{plan_of}
 use Rattle.pr_top.specs.Headline.{Headline}
 use Rattle.pr_top.specs.Kept.{IsStoppedIn}
-use Rattle.pr_top.specs.Progress.{IsHistoryOfDecls}
+use Rattle.pr_top.specs.Progress.{IsHistoryOver}
 use Rattle.pr_top.specs.Runs.{HasRun, IsLine, all_sound, told_text}
 use Rattle.pr_top.specs.declared.status.Status.{Status}
 use Rattle.pr_top.specs.declared.status.Status.TheVariants as status
@@ -27,7 +27,7 @@ HasRunWithin stop result s failed before now = (run : HasRun JobAfterJob all_sou
 pub record IsHeld (stop : ℕ) (s : Script) (kept : List NodeEntry) (unmet : Option ℕ) : Type 0 where
   pub made : List NodeEntry
   pub stopped : IsStoppedIn s kept made unmet
-  pub is : IsHistoryOfDecls s made
+  pub is : IsHistoryOver all_sound s made
   pub more : ℕ
   pub few : more < 4
   pub calls : 2 + 4 * length kept + more ≡ stop

@@ -22,6 +22,7 @@ use Rattle.pr_text.specs.Lines.{line_text}
 use Rattle.pr_text.specs.Numbers.{counts_of}
 use Rattle.pr_text.specs.Steps.{lines_of, step_line}
 use Rattle.pr_text.specs.Transcripts.{plan_of}
+use Rattle.pr_top.specs.Downs.{HasTrueDowns}
 use Rattle.pr_top.specs.Runs.{IsLie, IsWorn, IsWritten, told_text}
 use Rattle.pr_top.specs.declared.running.Expected.{Expected}
 use Rattle.pr_top.specs.declared.stepping.Halt.{Halt}
@@ -121,6 +122,10 @@ entry_lines ds es = flat_map (λ (e : NodeEntry). line_text ds e.node e.entry.ev
 abbrev pub IsHistoryOfDecls : Script → List NodeEntry → Type 0
 IsHistoryOfDecls s h = IsHistory (plan_of s.decls.list) (counts_of s.decls.list) h
 
+-- the same, over connections of which these are sound
+abbrev pub IsHistoryOver : (ℕ → Bool) → Script → List NodeEntry → Type 0
+IsHistoryOver sound s h = IsHistoryOfDecls s h × HasTrueDowns sound h
+
 -- ---- what is written
 
 -- the text was written; or a beginning of it, for want of memory, or since the sink failed
@@ -147,17 +152,17 @@ HasRunAll order sound s failed before now e unmet (Err halt) =
 -- told; or what was written is that of a run that stopped
 abbrev pub HasTold : Order → (ℕ → Bool) → Script → List NodeEntry → Type 0 → Option (List ℕ) → Option (List ℕ) → Result (Option Expected) Halt → Type 0
 HasTold order sound s h failed before now (Ok None) =
-    IsHistoryOfDecls s h × IsRunOf order s h None × Appends before now (transcript_text s.decls.list h)
+    IsHistoryOver sound s h × IsRunOf order s h None × Appends before now (transcript_text s.decls.list h)
 HasTold order sound s h failed before now (Ok (Some x)) =
-    IsHistoryOfDecls s h × IsRunOf order s h (Some x.line) × (x.text ≡ unmet_line x.line)
+    IsHistoryOver sound s h × IsRunOf order s h (Some x.line) × (x.text ≡ unmet_line x.line)
     × Appends before now (transcript_text s.decls.list h)
 HasTold order sound s h failed before now (Err halts.NoMemory) =
-    IsHistoryOfDecls s h × HasBegun order s h × ((n : ℕ) × Appends before now (take n (told_text s h)))
+    IsHistoryOver sound s h × HasBegun order s h × ((n : ℕ) × Appends before now (take n (told_text s h)))
 HasTold order sound s h failed before now (Err halts.WriteFault) =
-    IsHistoryOfDecls s h × HasBegun order s h
+    IsHistoryOver sound s h × HasBegun order s h
     × ((text : List ℕ) × IsWritten order status.WriteFault failed s h text × Appends before now text)
 HasTold order sound s h failed before now (Err halt) =
-    IsHistoryOfDecls s h × HasBegun order s h × IsHalt order sound s h halt × Appends before now (told_text s h)
+    IsHistoryOver sound s h × HasBegun order s h × IsHalt order sound s h halt × Appends before now (told_text s h)
 
 -- what is to be told of the first expectation that was not met
 abbrev pub IsExpected : Option ℕ → Option Expected → Type 0

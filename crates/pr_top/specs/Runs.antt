@@ -1,5 +1,5 @@
 -- What the top call leaves, by its status.
-use Rattle.std.specs.Prelude.{◌≡◌, ◌⊎◌, ◌≤◌, ◌++◌, ℕ, List, All, Bool, true, IsTrue, Option, Some, None, Result, Ok, get_or, take, length, codes}
+use Rattle.std.specs.Prelude.{◌≡◌, ◌⊎◌, ◌≤◌, ◌++◌, ℕ, List, All, Bool, true, Option, Some, None, Result, Ok, get_or, take, length, codes}
 use Rattle.std.specs.Io.KnownBytes.{Appends}
 use Rattle.pr_crew.specs.Phases.{IsStopCause, is_went}
 use Rattle.pr_crew.specs.Tasks.{first_stop}
@@ -15,6 +15,7 @@ use Rattle.pr_text.specs.Heads.{heads_text}
 use Rattle.pr_text.specs.Histories.{HasBegun, HasBegunAs, IsHistoryOf, IsRunOf, transcript_text}
 use Rattle.pr_text.specs.Numbers.{counts_of}
 use Rattle.pr_text.specs.Transcripts.{lines_text, plan_of}
+use Rattle.pr_top.specs.Downs.{AreAllSound, HasTrueDowns}
 use Rattle.pr_top.specs.Headline.{Headline}
 use Rattle.pr_top.specs.declared.status.Status.{Status}
 use Rattle.pr_top.specs.declared.status.Status.TheVariants as status
@@ -23,7 +24,7 @@ use Rattle.pr_top.specs.declared.status.Status.TheVariants as status
 
 -- some connection is not sound
 abbrev pub IsUnsound : (ℕ → Bool) → Type 0
-IsUnsound sound = ((k : ℕ) → IsTrue (sound k)) → ⊥
+IsUnsound sound = AreAllSound sound → ⊥
 
 -- each one is
 abbrev pub all_sound : ℕ → Bool
@@ -97,11 +98,13 @@ IsWritten order status.WriteFault failed s h text =
     failed × ((n : ℕ) × ((text ≡ take n (told_text s h)) ⊎ (IsHistoryOf order s h × (text ≡ take n (transcript_text s.decls.list h)))))
 IsWritten order _ failed s h text = ⊥
 
--- the script was run: its history, with phases in this order, is as promised, and is told up to where the status says
+-- the script was run: its history, with phases in this order, is as promised, each flow that went down did so for its
+-- cause, and it is told up to where the status says
 pub record HasRun (order : Order) (sound : ℕ → Bool) (result : Status) (s : Script) (failed : Type 0) (before now : Option (List ℕ)) : Type 0 where
   pub h : List NodeEntry
   pub headline : Headline (plan_of s.decls.list) (counts_of s.decls.list) h
   pub ends : IsEnd order sound result s h
+  pub downs : HasTrueDowns sound h
   pub text : List ℕ
   pub written : IsWritten order result failed s h text
   pub told : Appends before now text

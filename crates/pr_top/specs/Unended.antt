@@ -8,7 +8,8 @@ use Rattle.pr_story.specs.Scripts.{Order}
 use Rattle.pr_text.specs.Endings.{error_line, lied_cause}
 use Rattle.pr_text.specs.Heads.{heads_text}
 use Rattle.pr_text.specs.Histories.{HasBegun}
-use Rattle.pr_top.specs.Progress.{HasCome, IsHalt, IsHistoryOfDecls, Writes}
+use Rattle.pr_top.specs.Downs.{HasTrueDowns}
+use Rattle.pr_top.specs.Progress.{HasCome, IsHalt, IsHistoryOver, Writes}
 use Rattle.pr_top.specs.Runs.{WritesLine, told_text}
 use Rattle.pr_top.specs.declared.running.Expected.{Expected}
 use Rattle.pr_top.specs.declared.status.Status.{Status}
@@ -25,9 +26,10 @@ IsCutShort order sound s h failed before now halt = IsHalt order sound s h halt 
 
 -- with this history: all commands were run, and the head lines and the lines of the history written; or the run stopped
 abbrev pub HasRunUnendedTo : Order → (ℕ → Bool) → Script → List NodeEntry → Type 0 → Option (List ℕ) → Option (List ℕ) → Result Run Halt → Type 0
-HasRunUnendedTo order sound s h failed before now (Ok run) = HasCome order s [] h run.engine run.unmet × Appends before now (told_text s h)
+HasRunUnendedTo order sound s h failed before now (Ok run) =
+    HasCome order s [] h run.engine run.unmet × HasTrueDowns sound h × Appends before now (told_text s h)
 HasRunUnendedTo order sound s h failed before now (Err halt) =
-    IsHistoryOfDecls s h × HasBegun order s h × IsCutShort order sound s h failed before now halt
+    IsHistoryOver sound s h × HasBegun order s h × IsCutShort order sound s h failed before now halt
 
 abbrev pub HasRunUnended : Order → (ℕ → Bool) → Script → Type 0 → Option (List ℕ) → Option (List ℕ) → Result Run Halt → Type 0
 HasRunUnended order sound s failed before now ended = (h : List NodeEntry) × HasRunUnendedTo order sound s h failed before now ended

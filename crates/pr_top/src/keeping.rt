@@ -9,9 +9,11 @@ ghost use Rattle.pr_story.specs.Counts.{Declared};
 ghost use Rattle.pr_story.specs.History.{NodeEntry};
 ghost use Rattle.pr_text.specs.Heads.{heads_text};
 ghost use Rattle.pr_story.specs.Scripts.{JobAfterJob};
+ghost use Rattle.pr_top.specs.Downs.{TellsTrueDowns};
 ghost use Rattle.pr_top.specs.Kept.{HasRunKept, placed};
 ghost use Rattle.pr_top.specs.KeptProgress.{HasEndedSo, HasKeptAll, HasKeptFrom, HasKeptTold, EndsHalted, IsUnmade, break_of};
 ghost use Rattle.pr_top.specs.Progress.{HasCome, Writes};
+ghost use Rattle.pr_top.specs.Runs.{all_sound};
 ghost use Rattle.pr_top.specs.declared.keeping.Break.TheVariants as breaks;
 ghost use Rattle.pr_top.specs.declared.stepping.Halt.TheVariants as halts;
 ghost use Rattle.std.specs.Prelude.{◌≡◌, ◌≤◌, [], List, length, reverse, take};
@@ -180,6 +182,7 @@ fn commands<D: Disk, K: Sink>(
     requires come { HasCome JobAfterJob script.now script.now.commands [] run.old.engine run.old.unmet }
     requires kept { Keeps D.state D.images keep.old [] }
     ensures run { HasKeptAll D.state D.images D.moment D.images_since keep.old keep.new script.now (HasRisen (K.faults out.old) (K.faults out.new)) (K.text out.old) (K.text out.new) run.new.engine run.new.unmet result }
+    ensures downs { TellsTrueDowns all_sound (declared_of script.now.decls.list) run.new.engine }
     ensures rises { K.faults out.old ≤ K.faults out.new }
 {
     let list = script.commands.as_slice();

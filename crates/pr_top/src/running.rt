@@ -8,6 +8,7 @@ ghost use Rattle.pr_story.specs.History.{NodeEntry};
 ghost use Rattle.pr_story.specs.Scripts.{JobAfterJob, Order};
 ghost use Rattle.pr_text.specs.Endings.{ok_line};
 ghost use Rattle.pr_text.specs.Lines.{line_text};
+ghost use Rattle.pr_top.specs.Downs.{TellsTrueDowns};
 ghost use Rattle.pr_top.specs.Progress.{HasCome, HasRunAll, HasTold, IsExpected, Writes, entry_lines};
 ghost use Rattle.pr_top.specs.Runs.{HasRun, HasRunTo, IsToEnd, all_sound};
 ghost use Rattle.pr_top.specs.Unended.{HasBegunWell, HasRunUnended, HasRunUnendedTo, TellsEnd, TellsHalt};
@@ -142,6 +143,7 @@ pub fn begin<K: Sink>(alloc: Global, script: &Script, out: &mut K) -> Result<Run
 fn commands<K: Sink>(alloc: Global, script: &Script, run: &mut Run, out: &mut K) -> Result<(), Halt>
     requires { HasCome JobAfterJob script.now script.now.commands [] run.old.engine run.old.unmet }
     ensures run { HasRunAll JobAfterJob all_sound script.now (HasRisen (K.faults out.old) (K.faults out.new)) (K.text out.old) (K.text out.new) run.new.engine run.new.unmet result }
+    ensures downs { TellsTrueDowns all_sound (declared_of script.now.decls.list) run.new.engine }
     ensures rises { K.faults out.old ≤ K.faults out.new }
 {
     let list = script.commands.as_slice();

@@ -4,7 +4,9 @@ ghost use Rattle.pr_script.specs.declared.command.Command.TheVariants as command
 ghost use Rattle.pr_script.specs.declared.script.Script.{Script};
 ghost use Rattle.pr_story.specs.History.{NodeEntry};
 ghost use Rattle.pr_text.specs.Histories.{first_of, is_met};
+ghost use Rattle.pr_sim.specs.Making.{declared_of};
 ghost use Rattle.pr_top.specs.Carrying.{StepCarries};
+ghost use Rattle.pr_top.specs.Downs.{AddsTrueDowns};
 ghost use Rattle.pr_top.specs.Progress.{CanGoOn, HasCome, HasStepped, IsAlone};
 ghost use Rattle.pr_top.specs.Stopping.{IsWent};
 ghost use Rattle.pr_top.specs.Runs.{all_sound};
@@ -56,7 +58,8 @@ impl Run {
     /// commands behind the first one that took. Each wire is one in memory that never fails.
     pub fn step(&mut self, first: &(u64, Command), behind: &[(u64, Command)]) -> Result<usize, Halt>
         requires { CanGoOn JobAfterJob (first.now ∷ behind.now) self.old.engine self.old.unmet }
-        ensures { (s : Script) (h : List NodeEntry) → HasCome JobAfterJob s (first.now ∷ behind.now) h self.old.engine self.old.unmet → HasStepped JobAfterJob all_sound s (first.now ∷ behind.now) h self.new.engine self.new.unmet result }
+        ensures steps { (s : Script) (h : List NodeEntry) → HasCome JobAfterJob s (first.now ∷ behind.now) h self.old.engine self.old.unmet → HasStepped JobAfterJob all_sound s (first.now ∷ behind.now) h self.new.engine self.new.unmet result }
+        ensures downs { (s : Script) (h : List NodeEntry) → HasCome JobAfterJob s (first.now ∷ behind.now) h self.old.engine self.old.unmet → AddsTrueDowns all_sound (declared_of s.decls.list) h self.new.engine }
     {
         match &first.1 {
             Command::Expect { want } => {
@@ -72,7 +75,8 @@ impl Run {
     fn phase(&mut self, first: &(u64, Command), behind: &[(u64, Command)]) -> Result<usize, Halt>
         requires come { CanGoOn JobAfterJob (first.now ∷ behind.now) self.old.engine self.old.unmet }
         requires phase { is_phase first.now.1 ≡ true }
-        ensures { (s : Script) (h : List NodeEntry) → HasCome JobAfterJob s (first.now ∷ behind.now) h self.old.engine self.old.unmet → HasStepped JobAfterJob all_sound s (first.now ∷ behind.now) h self.new.engine self.new.unmet result }
+        ensures steps { (s : Script) (h : List NodeEntry) → HasCome JobAfterJob s (first.now ∷ behind.now) h self.old.engine self.old.unmet → HasStepped JobAfterJob all_sound s (first.now ∷ behind.now) h self.new.engine self.new.unmet result }
+        ensures downs { (s : Script) (h : List NodeEntry) → HasCome JobAfterJob s (first.now ∷ behind.now) h self.old.engine self.old.unmet → AddsTrueDowns all_sound (declared_of s.decls.list) h self.new.engine }
     {
         let _ = first;
         let (inside, left) = behind.split_at(phase_len(behind));
@@ -91,6 +95,7 @@ impl Run {
         requires alone { IsAlone first.now.1 }
         requires few { W.made wires.old < 2 ^ 40 }
         ensures steps { (order : Order) (s : Script) (h : List NodeEntry) → HasCome order s (first.now ∷ behind.now) h self.old.engine self.old.unmet → HasStepped order (W.sound wires.old) s (first.now ∷ behind.now) h self.new.engine self.new.unmet result }
+        ensures downs { (order : Order) (s : Script) (h : List NodeEntry) → HasCome order s (first.now ∷ behind.now) h self.old.engine self.old.unmet → AddsTrueDowns (W.sound wires.old) (declared_of s.decls.list) h self.new.engine }
         ensures carried { (s : Script) (h : List NodeEntry) → HasCome ByTime s (first.now ∷ behind.now) h self.old.engine self.old.unmet → StepCarries s (first.now ∷ behind.now) h self.new.engine (W.carried wires.old) (W.carried wires.new) result }
         ensures made { W.made wires.new ≤ W.made wires.old + 1 }
         ensures sound { W.sound wires.new ≡ W.sound wires.old }

@@ -7,7 +7,7 @@ use Rattle.pr_top.proofs.pulling.pull_front.Goals as goal
 pub returns-in-Ok : goal.returns-in-Ok
 returns-in-Ok g c =
     let k = c.in-Ok.ensures.told in
-    inl (c.pull_behind.ensures k.0 (g.K.Sink.text c.args.out.now) (g.K.Sink.faults c.args.out.now) k.1.0 k.1.1 c.in-Ok.ensures.rises)
+    inl (c.pull_behind.ensures k.0 (g.K.Sink.text c.args.out.now) (g.K.Sink.faults c.args.out.now) k.1.0 k.1.2 c.in-Ok.ensures.rises)
 
 pub returns-in-Err : goal.returns-in-Err
 returns-in-Err g c =

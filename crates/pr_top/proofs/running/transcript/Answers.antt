@@ -40,6 +40,6 @@ returns-clause-told g c = λ o sound h before risen le k.
     let u = c.in_ok-run.run'.unmet in
     let come = all.0 in
     let tells = running_tells (declared_of ds) come.attached h e come.running in
-    end_told o sound s h e u come before d all.1 now z c.end.result
+    end_told o sound s h e u come all.1 before d all.2 now z c.end.result
     (writes_map (Option Expected) later now d z (ok_line (length ds + length h)) c.end.result (risen_then risen (g.K.Sink.faults c.args.out.now) (g.K.Sink.faults c.end.new.out) le) (c.end.ensures.told h tells))
     c.end.ensures.unmet c.end.ensures.kept

@@ -1,12 +1,15 @@
 use Rattle.std.proofs.Common.{◌≡◌, Err, Result, subst, sym}
 use Rattle.std.proofs.lemmas.Result.{err_from_is_err_and}
 use Rattle.pr_ports.specs.Faults.{HasRisen}
+use Rattle.pr_sim.specs.Making.{declared_of}
+use Rattle.pr_sim.proofs.Story.{running_tells}
 use Rattle.pr_story.specs.Scripts.{JobAfterJob}
 use Rattle.pr_top.specs.Progress.{HasRunAll}
 use Rattle.pr_top.specs.Runs.{all_sound}
 use Rattle.pr_top.specs.Unended.{HasBegunWell, HasRunUnended}
 use Rattle.pr_top.specs.declared.stepping.Run.{Run}
 use Rattle.pr_top.specs.declared.stepping.Halt.{Halt}
+use Rattle.pr_top.proofs.Downs.{downs_of}
 use Rattle.pr_top.proofs.Runs.{none_ran, run_cut, run_whole}
 use Rattle.pr_top.proofs.Written.{risen_then}
 use Rattle.pr_top.proofs.running.unended.Goals as goal
@@ -42,7 +45,7 @@ returns-in_err-commands-clause-told g c =
     let same = p.2 in
     let done : c.commands.result ≡ Err p.0 = cc in
     subst (λ (r : Result Run Halt). HasRunUnended JobAfterJob all_sound s now a d r) (sym p.1)
-    (run_cut JobAfterJob all_sound later now s e u a b d p.0 (risen_then (g.K.Sink.faults c.args.out.now) (g.K.Sink.faults c.begin.new.out) (g.K.Sink.faults c.commands.new.out) c.begin.ensures.rises) c.in_ok-run.ensures.begun.1
+    (run_cut JobAfterJob all_sound later now s e u a b d p.0 (risen_then (g.K.Sink.faults c.args.out.now) (g.K.Sink.faults c.begin.new.out) (g.K.Sink.faults c.commands.new.out) c.begin.ensures.rises) c.in_ok-run.ensures.begun.1 c.commands.ensures.downs
     (subst (λ (r : Result (Unit {0}) Halt). HasRunAll JobAfterJob all_sound s later b d e u r) done c.commands.ensures.run))
 
 pub returns-clause-told : goal.returns-clause-told
@@ -53,4 +56,6 @@ returns-clause-told g c =
     let d = g.K.Sink.text c.commands.new.out in
     let now : Type 0 = HasRisen (g.K.Sink.faults c.args.out.now) (g.K.Sink.faults c.commands.new.out) in
     let all = c.in_ok-commands.ensures.run in
-    (all.0, run_whole JobAfterJob all_sound now s all.0 c.commands.new.run a b d all.1 c.in_ok-run.ensures.begun.1 all.2)
+    let come = all.1 in
+    let tells = running_tells (declared_of s.decls.list) come.attached all.0 c.commands.new.run.engine come.running in
+    (all.0, run_whole JobAfterJob all_sound now s all.0 c.commands.new.run a b d come (downs_of all_sound (declared_of s.decls.list) all.0 c.commands.new.run.engine tells c.commands.ensures.downs) c.in_ok-run.ensures.begun.1 all.2)

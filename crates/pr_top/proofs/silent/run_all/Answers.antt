@@ -19,7 +19,7 @@ returns-in_err-at c =
     let was = c.in_err-at.was in
     let same = p.2 in
     let done : c.step.result ≡ Err p.0 = cc in
-    let halted = halted_now JobAfterJob all_sound s c.as_slice-list.result.now c.index-list-at.result c.loop-at.at (length k.0) c.loop-at.run.engine c.loop-at.run.unmet None None w c.as_slice-list.ensures c.loop-at-test.true c.index-list-at.is c.step.new.self.engine c.step.new.self.unmet c.step.result (λ h come. c.step.ensures s h come) p.0 done in
+    let halted = halted_now JobAfterJob all_sound s c.as_slice-list.result.now c.index-list-at.result c.loop-at.at (length k.0) c.loop-at.run.engine c.loop-at.run.unmet None None w c.as_slice-list.ensures c.loop-at-test.true c.index-list-at.is c.step.new.self.engine c.step.new.self.unmet c.step.result (λ h come. c.step.ensures.steps s h come) p.0 done in
     subst (λ (r : Result (Unit {0}) Halt). HasRunSo s c.step.new.self.engine c.step.new.self.unmet r) (sym p.1) (_, halted.1)
 
 pub overflow_add-at-in-loop-at : goal.overflow_add-at-in-loop-at
@@ -27,7 +27,7 @@ overflow_add-at-in-loop-at c =
     let s = c.args.script.now in
     let k = c.loop-at.invariant.come in
     let w = silently s c.loop-at.at k.0 c.loop-at.run.engine c.loop-at.run.unmet k.1 in
-    let went = went_now JobAfterJob all_sound s c.as_slice-list.result.now c.index-list-at.result c.loop-at.at (length k.0) c.loop-at.run.engine c.loop-at.run.unmet None None w c.as_slice-list.ensures c.loop-at-test.true c.index-list-at.is c.step.new.self.engine c.step.new.self.unmet c.step.result (λ h come. c.step.ensures s h come) c.in_ok-at.field-0 c.in_ok-at.was in
+    let went = went_now JobAfterJob all_sound s c.as_slice-list.result.now c.index-list-at.result c.loop-at.at (length k.0) c.loop-at.run.engine c.loop-at.run.unmet None None w c.as_slice-list.ensures c.loop-at-test.true c.index-list-at.is c.step.new.self.engine c.step.new.self.unmet c.step.result (λ h come. c.step.ensures.steps s h come) c.in_ok-at.field-0 c.in_ok-at.was in
     let within : c.loop-at.at + (c.in_ok-at.field-0 + 1) ≤ length c.as_slice-list.result.now = went.0 in
     search rules
 
@@ -36,7 +36,7 @@ overflow_add-at-in-loop-at-2 c =
     let s = c.args.script.now in
     let k = c.loop-at.invariant.come in
     let w = silently s c.loop-at.at k.0 c.loop-at.run.engine c.loop-at.run.unmet k.1 in
-    let went = went_now JobAfterJob all_sound s c.as_slice-list.result.now c.index-list-at.result c.loop-at.at (length k.0) c.loop-at.run.engine c.loop-at.run.unmet None None w c.as_slice-list.ensures c.loop-at-test.true c.index-list-at.is c.step.new.self.engine c.step.new.self.unmet c.step.result (λ h come. c.step.ensures s h come) c.in_ok-at.field-0 c.in_ok-at.was in
+    let went = went_now JobAfterJob all_sound s c.as_slice-list.result.now c.index-list-at.result c.loop-at.at (length k.0) c.loop-at.run.engine c.loop-at.run.unmet None None w c.as_slice-list.ensures c.loop-at-test.true c.index-list-at.is c.step.new.self.engine c.step.new.self.unmet c.step.result (λ h come. c.step.ensures.steps s h come) c.in_ok-at.field-0 c.in_ok-at.was in
     let within : c.loop-at.at + (c.in_ok-at.field-0 + 1) ≤ length c.as_slice-list.result.now = went.0 in
     search rules
 
@@ -45,7 +45,7 @@ loop-at-preserved c =
     let s = c.args.script.now in
     let k = c.loop-at.invariant.come in
     let w = silently s c.loop-at.at k.0 c.loop-at.run.engine c.loop-at.run.unmet k.1 in
-    let went = went_now JobAfterJob all_sound s c.as_slice-list.result.now c.index-list-at.result c.loop-at.at (length k.0) c.loop-at.run.engine c.loop-at.run.unmet None None w c.as_slice-list.ensures c.loop-at-test.true c.index-list-at.is c.step.new.self.engine c.step.new.self.unmet c.step.result (λ h come. c.step.ensures s h come) c.in_ok-at.field-0 c.in_ok-at.was in
+    let went = went_now JobAfterJob all_sound s c.as_slice-list.result.now c.index-list-at.result c.loop-at.at (length k.0) c.loop-at.run.engine c.loop-at.run.unmet None None w c.as_slice-list.ensures c.loop-at-test.true c.index-list-at.is c.step.new.self.engine c.step.new.self.unmet c.step.result (λ h come. c.step.ensures.steps s h come) c.in_ok-at.field-0 c.in_ok-at.was in
     record { within = went.0; come = behind s c.loop-at.at c.in_ok-at.field-0 _ c.step.new.self.engine c.step.new.self.unmet went.1.1 }
 
 pub returns : goal.returns

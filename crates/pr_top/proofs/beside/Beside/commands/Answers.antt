@@ -8,7 +8,8 @@ use Rattle.pr_story.specs.Scripts.{ByTime}
 use Rattle.pr_top.specs.Progress.{HasRunAll, Writes, entry_lines}
 use Rattle.pr_top.specs.declared.stepping.Halt.{Halt}
 use Rattle.pr_top.proofs.Carried.{carried_first, carried_last, carried_turn}
-use Rattle.pr_top.proofs.Runs.{cut_run, halted_now, last_turn, next_turn, stepped_so, stop_run, stops_now, told_within, went_now}
+use Rattle.pr_top.proofs.Downs.{first_downs}
+use Rattle.pr_top.proofs.Runs.{cut_run, downs_now, halted_now, last_turn, next_turn, stepped_so, stop_run, stops_now, told_within, went_now}
 use Rattle.pr_top.proofs.Written.{appends_none, risen_then, writes_map}
 use Rattle.pr_top.proofs.beside.Beside.commands.Goals as goal
 
@@ -19,6 +20,7 @@ loop-at-init g c = record {
   made = let none = c.requires.few in omega (arith, none);
   sound = refl;
   carried = carried_first c.args.script.now c.args.run.now.engine c.args.run.now.unmet (g.W.Wires.carried c.args.wires.now) c.requires.come;
+  downs = first_downs ByTime c.args.script.now (g.W.Wires.sound c.args.wires.now) c.args.run.now.engine c.args.run.now.unmet c.requires.come;
   held = record { h = []; come = c.requires.come; all_told = refl; written = appends_none (g.K.Sink.text c.args.out.now) };
 }
 
@@ -124,6 +126,7 @@ loop-at-preserved g c =
       carried = carried_turn s c.as_slice-list.result.now c.index-list-at.result c.loop-at.at c.in_ok-at.field-0 w.h c.loop-at.run.engine f c.loop-at.run.unmet c.step-step.result
           (g.W.Wires.carried c.args.wires.now) (g.W.Wires.carried c.loop-at.wires) (g.W.Wires.carried c.step-step.new.wires) w.come c.as_slice-list.ensures c.loop-at-test.true c.index-list-at.is c.in_ok-at.was
           (λ h come. c.step-step.ensures.carried s h come) c.loop-at.invariant.carried;
+      downs = downs_now ByTime (g.W.Wires.sound c.args.wires.now) s c.as_slice-list.result.now c.index-list-at.result c.loop-at.at c.loop-at.told c.loop-at.run.engine c.loop-at.run.unmet a b w c.as_slice-list.ensures c.loop-at-test.true c.index-list-at.is f v c.step-step.result (stepped_so ByTime (g.W.Wires.sound c.loop-at.wires) (g.W.Wires.sound c.args.wires.now) c.loop-at.invariant.sound s c.index-list-at.result (take (length c.as_slice-list.result.now - (c.loop-at.at + 1)) (drop (c.loop-at.at + 1) c.as_slice-list.result.now)) c.loop-at.run.engine c.loop-at.run.unmet f v c.step-step.result c.step-step.ensures.steps) (g.W.Wires.sound c.loop-at.wires) c.loop-at.invariant.sound (λ h come. c.step-step.ensures.downs s h come) c.loop-at.invariant.downs;
       held = next_turn ByTime (g.W.Wires.sound c.args.wires.now) s c.loop-at.at c.loop-at.told c.in_ok-at.field-0 c.in_ok-told.told c.loop-at.run.engine f c.loop-at.run.unmet v a b d w new come (c.in_ok-told.ensures.count (new ++ w.h) tells) (c.in_ok-told.ensures.told (new ++ w.h) tells);
     }
 
@@ -137,3 +140,23 @@ pub returns-clause-carried : goal.returns-clause-carried
 returns-clause-carried g c =
     let l = ap (λ (xs : List Numbered). length xs) c.as_slice-list.ensures in
     carried_last c.args.script.now c.loop-at.at c.loop-at.run.engine (g.W.Wires.carried c.args.wires.now) (g.W.Wires.carried c.loop-at.wires) (omega (arith, l, c.loop-at-test.false)) c.loop-at.invariant.carried
+
+pub returns-in_err-told-clause-downs : goal.returns-in_err-told-clause-downs
+returns-in_err-told-clause-downs g c =
+    let s = c.args.script.now in
+    let w = c.loop-at.invariant.held in
+    let a = g.K.Sink.text c.args.out.now in
+    let b = g.K.Sink.text c.loop-at.out in
+    let f = c.step-step.new.run.engine in
+    let v = c.step-step.new.run.unmet in
+    downs_now ByTime (g.W.Wires.sound c.args.wires.now) s c.as_slice-list.result.now c.index-list-at.result c.loop-at.at c.loop-at.told c.loop-at.run.engine c.loop-at.run.unmet a b w c.as_slice-list.ensures c.loop-at-test.true c.index-list-at.is f v c.step-step.result (stepped_so ByTime (g.W.Wires.sound c.loop-at.wires) (g.W.Wires.sound c.args.wires.now) c.loop-at.invariant.sound s c.index-list-at.result (take (length c.as_slice-list.result.now - (c.loop-at.at + 1)) (drop (c.loop-at.at + 1) c.as_slice-list.result.now)) c.loop-at.run.engine c.loop-at.run.unmet f v c.step-step.result c.step-step.ensures.steps) (g.W.Wires.sound c.loop-at.wires) c.loop-at.invariant.sound (λ h come. c.step-step.ensures.downs s h come) c.loop-at.invariant.downs
+
+pub returns-in_err-at-clause-downs : goal.returns-in_err-at-clause-downs
+returns-in_err-at-clause-downs g c =
+    let s = c.args.script.now in
+    let w = c.loop-at.invariant.held in
+    let a = g.K.Sink.text c.args.out.now in
+    let b = g.K.Sink.text c.loop-at.out in
+    let f = c.step-step.new.run.engine in
+    let v = c.step-step.new.run.unmet in
+    downs_now ByTime (g.W.Wires.sound c.args.wires.now) s c.as_slice-list.result.now c.index-list-at.result c.loop-at.at c.loop-at.told c.loop-at.run.engine c.loop-at.run.unmet a b w c.as_slice-list.ensures c.loop-at-test.true c.index-list-at.is f v c.step-step.result (stepped_so ByTime (g.W.Wires.sound c.loop-at.wires) (g.W.Wires.sound c.args.wires.now) c.loop-at.invariant.sound s c.index-list-at.result (take (length c.as_slice-list.result.now - (c.loop-at.at + 1)) (drop (c.loop-at.at + 1) c.as_slice-list.result.now)) c.loop-at.run.engine c.loop-at.run.unmet f v c.step-step.result c.step-step.ensures.steps) (g.W.Wires.sound c.loop-at.wires) c.loop-at.invariant.sound (λ h come. c.step-step.ensures.downs s h come) c.loop-at.invariant.downs

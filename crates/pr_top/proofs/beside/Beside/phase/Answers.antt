@@ -14,6 +14,7 @@ use Rattle.pr_story.specs.Counts.{Declared}
 use Rattle.pr_story.specs.History.{NodeEntry}
 use Rattle.pr_top.specs.Stopping.{IsReadyFor}
 use Rattle.pr_top.proofs.Carried.{phase_carries}
+use Rattle.pr_top.proofs.Downs.{threads_add}
 use Rattle.pr_top.proofs.Threads.{are_distinct, can_run, threads_step}
 use Rattle.pr_top.specs.declared.stepping.Halt.{Halt}
 use Rattle.pr_top.proofs.Steps.{phase_steps, phase_stops, phase_within, ready_for}
@@ -89,3 +90,11 @@ returns-clause-carried g c = λ s h k.
     (subst (λ (xs : List Numbered). LeavesPhase (λ (d : Declared) (x : List NodeEntry). KeepsRecords d x c.phase.new.held) (declared_of s.decls.list) h xs (held_of c.phase.new.held) c.phase.result) c.split_at.ensures.front (c.phase.ensures.leaves (declared_of s.decls.list) h (represents (declared_of s.decls.list) k.attached h c.args.run.now.engine k.running).0)) c.phase.ensures.attached c.phase.ensures.works (λ lie all. lie (c.phase.ensures.no_lie all)))
     (subst (λ (xs : List Numbered). PhaseCarries (λ (d : Declared) (x : List NodeEntry). KeepsRecords d x c.phase.new.held) (declared_of s.decls.list) h xs (held_of c.phase.new.held) before now c.phase.result) c.split_at.ensures.front
     (c.phase.ensures.carried (declared_of s.decls.list) h (represents (declared_of s.decls.list) k.attached h c.args.run.now.engine k.running).0)) c.went.ensures c.in_ok-went.was)
+
+pub returns-in_err-went-clause-downs : goal.returns-in_err-went-clause-downs
+returns-in_err-went-clause-downs g c = λ s h k all.
+    threads_add (declared_of s.decls.list) h c.phase.new.held (c.phase.ensures.sound_events (declared_of s.decls.list) h (represents (declared_of s.decls.list) k.attached h c.args.run.now.engine k.running).0 all)
+
+pub returns-clause-downs : goal.returns-clause-downs
+returns-clause-downs g c = λ s h k all.
+    threads_add (declared_of s.decls.list) h c.phase.new.held (c.phase.ensures.sound_events (declared_of s.decls.list) h (represents (declared_of s.decls.list) k.attached h c.args.run.now.engine k.running).0 all)

@@ -4,6 +4,7 @@ use Rattle.pr_script.specs.Steps.{is_phase}
 use Rattle.pr_story.specs.Scripts.{ByTime}
 use Rattle.pr_top.specs.Progress.{HasCome}
 use Rattle.pr_top.proofs.Carried.{expect_carries}
+use Rattle.pr_top.proofs.Downs.{same_downs}
 use Rattle.pr_top.proofs.beside.Beside.step.Goals as goal
 
 pub judge-requires : goal.judge-requires
@@ -25,4 +26,9 @@ pub returns-in-Expect-clause-carried : goal.returns-in-Expect-clause-carried
 returns-in-Expect-clause-carried g c = λ s h k.
     let told = g.W.Wires.carried c.args.wires.now in
     expect_carries s c.args.first.now c.args.behind.now h c.args.run.now.engine c.args.run.now.unmet k (ap (λ (x : Command). is_phase x) c.in-Expect.is ∙ refl) c.judge.new.self.engine told told _ c.judge.new.self.unmet c.in-Expect.is refl
+    (c.judge.ensures ByTime s h (subst (λ (x : Command). HasCome ByTime s ((c.args.first.now.0, x) ∷ c.args.behind.now) h c.args.run.now.engine c.args.run.now.unmet) c.in-Expect.is k))
+
+pub returns-in-Expect-clause-downs : goal.returns-in-Expect-clause-downs
+returns-in-Expect-clause-downs g c = λ s h k.
+    same_downs ByTime s (g.W.Wires.sound c.args.wires.now) c.args.behind.now h c.judge.new.self.engine c.judge.new.self.unmet
     (c.judge.ensures ByTime s h (subst (λ (x : Command). HasCome ByTime s ((c.args.first.now.0, x) ∷ c.args.behind.now) h c.args.run.now.engine c.args.run.now.unmet) c.in-Expect.is k))

@@ -10,6 +10,7 @@ use Rattle.pr_top.specs.Unended.{HasBegunWell, HasRunUnended}
 use Rattle.pr_top.specs.declared.stepping.Run.{Run}
 use Rattle.pr_top.specs.declared.stepping.Halt.{Halt}
 use Rattle.pr_top.proofs.Carried.{told_carried}
+use Rattle.pr_top.proofs.Downs.{downs_of}
 use Rattle.pr_top.proofs.Runs.{none_ran, run_cut, run_whole}
 use Rattle.pr_top.proofs.Written.{risen_then}
 use Rattle.pr_top.proofs.beside.Beside.unended.Goals as goal
@@ -48,7 +49,7 @@ returns-in_err-commands-clause-told g c =
     let w = g.W.Wires.carried c.args.wires.now in
     let x = g.W.Wires.carried c.commands.new.wires in
     subst (λ (r : Result Run Halt). (run : HasRunUnended ByTime (g.W.Wires.sound c.args.wires.now) s now a d r) × UnendedCarries s run.0 w x r) (sym p.1) (
-      run_cut ByTime (g.W.Wires.sound c.args.wires.now) later now s e u a b d p.0 (risen_then (g.K.Sink.faults c.args.out.now) (g.K.Sink.faults c.begin.new.out) (g.K.Sink.faults c.commands.new.out) c.begin.ensures.rises) c.in_ok-run.ensures.begun.1
+      run_cut ByTime (g.W.Wires.sound c.args.wires.now) later now s e u a b d p.0 (risen_then (g.K.Sink.faults c.args.out.now) (g.K.Sink.faults c.begin.new.out) (g.K.Sink.faults c.commands.new.out) c.begin.ensures.rises) c.in_ok-run.ensures.begun.1 c.commands.ensures.downs
           (subst (λ (r : Result (Unit {0}) Halt). HasRunAll ByTime (g.W.Wires.sound c.args.wires.now) s later b d e u r) done c.commands.ensures.run),
       tt,
     )
@@ -63,6 +64,6 @@ returns-clause-told g c =
     let all = c.in_ok-commands.ensures.run in
     let come = all.1 in
     let tells = running_tells (declared_of s.decls.list) come.attached all.0 c.commands.new.run.engine come.running in (
-      (all.0, run_whole ByTime (g.W.Wires.sound c.args.wires.now) now s all.0 c.commands.new.run a b d come c.in_ok-run.ensures.begun.1 all.2),
+      (all.0, run_whole ByTime (g.W.Wires.sound c.args.wires.now) now s all.0 c.commands.new.run a b d come (downs_of (g.W.Wires.sound c.args.wires.now) (declared_of s.decls.list) all.0 c.commands.new.run.engine tells c.commands.ensures.downs) c.in_ok-run.ensures.begun.1 all.2),
       told_carried s [] all.0 c.commands.new.run.engine (g.W.Wires.carried c.args.wires.now) (g.W.Wires.carried c.commands.new.wires) tells c.in_ok-commands.ensures.carried,
     )

@@ -1,4 +1,4 @@
-use Rattle.std.proofs.Common.{◌≡◌, ◌∷◌, Result, Err, sym, subst, ℕ}
+use Rattle.std.proofs.Common.{◌≡◌, ◌∷◌, ◌+◌, Result, Err, sym, subst, ℕ}
 use Rattle.std.proofs.lemmas.Result.{err_from_is_err_and}
 use Rattle.pr_sim.specs.Making.{declared_of}
 use Rattle.pr_story.specs.Scripts.{ByTime}
@@ -44,3 +44,9 @@ returns-clause-carried g c = λ s h k.
     sound c.step.result c.went.result
     (single_steps ByTime sound c.args.first.now.1 (declared_of s.decls.list) k.attached h c.step.new.self c.step.result (λ lie all. lie (c.step.ensures.wires.no_lie all)) (c.step.ensures.steps (declared_of s.decls.list) k.attached h k.running))
     (c.step.ensures.carried (declared_of s.decls.list) k.attached h k.running) c.went.ensures c.in_ok-went.was
+
+pub returns-in_err-went-clause-downs : goal.returns-in_err-went-clause-downs
+returns-in_err-went-clause-downs g c = λ o s h k all. c.step.ensures.sound_events (declared_of s.decls.list) k.attached h k.running (all (g.W.Wires.made c.args.wires.now + 1))
+
+pub returns-clause-downs : goal.returns-clause-downs
+returns-clause-downs g c = λ o s h k all. c.step.ensures.sound_events (declared_of s.decls.list) k.attached h k.running (all (g.W.Wires.made c.args.wires.now + 1))

@@ -27,8 +27,8 @@ phase_in_order-requires-clause-can c κs =
     subst (λ (xs : List Numbered). CanRunPhase c.args.self.now.engine xs) (sym c.split_at.ensures.front)
     (good_phase_can_run ready.decls ready.numbers ready.attached ready.h c.args.self.now.engine (take c.phase_len.result c.args.behind.now) ready.running ready.same ready.good)
 
-pub returns-in_err-went : goal.returns-in_err-went
-returns-in_err-went c = λ s h k.
+pub returns-in_err-went-clause-steps : goal.returns-in_err-went-clause-steps
+returns-in_err-went-clause-steps c = λ s h k.
     let p = err_from_is_err_and c.from_residual.result c.from_residual.ensures.1 in
     let was = c.in_err-went.was in
     let same = p.2 in
@@ -44,8 +44,8 @@ overflow_sub-result c =
     let within : c.phase_len.result < length c.args.behind.now = phase_within JobAfterJob all_sound k.0 c.args.first.now c.args.behind.now k.1 c.args.self.now.engine c.args.self.now.unmet k.2 c.requires.phase c.phase_len.result c.phase_len.ensures in
     omega (arith, c.split_at.ensures.back_len)
 
-pub returns : goal.returns
-returns c = λ s h k.
+pub returns-clause-steps : goal.returns-clause-steps
+returns-clause-steps c = λ s h k.
     let within : c.phase_len.result < length c.args.behind.now = phase_within JobAfterJob all_sound s c.args.first.now c.args.behind.now h c.args.self.now.engine c.args.self.now.unmet k c.requires.phase c.phase_len.result c.phase_len.ensures in
     let back = c.split_at.ensures.back_len in
     let count : c.phase_len.result + 1 ≡ length c.args.behind.now - (length c.split_at.result.1.now - 1) = omega arith in
@@ -53,3 +53,9 @@ returns c = λ s h k.
     (phase_steps JobAfterJob all_sound s c.args.first.now c.args.behind.now h c.args.self.now.engine c.args.self.now.unmet k c.requires.phase c.phase_len.result c.phase_len.ensures c.phase_in_order.new.self c.phase_in_order.result c.went.result
     (in_order_steps all_sound (Phase (jobs_of (take c.phase_len.result c.args.behind.now))) (declared_of s.decls.list) k.attached h c.phase_in_order.new.self c.phase_in_order.result (λ lie all. lie (c.phase_in_order.ensures.wires.no_lie all))
     (subst (λ (xs : List Numbered). StepEnds (Phase (jobs_of xs)) (declared_of s.decls.list) k.attached h c.phase_in_order.new.self c.phase_in_order.result) c.split_at.ensures.front (c.phase_in_order.ensures.steps (declared_of s.decls.list) k.attached h k.running))) c.went.ensures c.in_ok-went.was)
+
+pub returns-in_err-went-clause-downs : goal.returns-in_err-went-clause-downs
+returns-in_err-went-clause-downs c = λ s h k all. c.phase_in_order.ensures.sound_events (declared_of s.decls.list) k.attached h k.running (λ i. refl)
+
+pub returns-clause-downs : goal.returns-clause-downs
+returns-clause-downs c = λ s h k all. c.phase_in_order.ensures.sound_events (declared_of s.decls.list) k.attached h k.running (λ i. refl)
