@@ -1,16 +1,15 @@
 -- A script that is not too large has few commands.
-use Rattle.std.proofs.Common.{◌≡◌, ◌⊎◌, ℕ, zero, suc, ◌+◌, ◌-◌, ◌<◌, ◌≤◌, List, [], ◌∷◌, ◌++◌, Result, Ok, Err, inl, inr, refl, sym, ◌∙◌, ap, subst, drop, length, length-drop, take, arith}
+use Rattle.std.proofs.Common.{◌≡◌, ◌⊎◌, ℕ, ◌+◌, ◌-◌, ◌<◌, ◌≤◌, List, [], ◌∷◌, ◌++◌, Result, Ok, Err, inl, inr, ◌∙◌, ap, drop, length, length-drop, take, arith}
 use Rattle.std.specs.Prelude.{Bool, true, false, Option, None, Some, is_some, ◌||◌, if◌then◌else◌}
 use Rattle.std.specs.List.{flat_map}
 use Rattle.std.proofs.lemmas.Bool.{cases_lt}
 use Rattle.std.proofs.lemmas.Bool.Decides.{nat_tests}
 use Rattle.std.proofs.lemmas.List.{append-nil, length-append}
-use Rattle.pr_script.specs.declared.command.Command.{Command}
 use Rattle.pr_script.specs.declared.item.Item.{Item}
 use Rattle.pr_script.specs.declared.item.Item.TheVariants as items
 use Rattle.pr_script.specs.declared.script.Script.{Script}
 use Rattle.pr_script.specs.Lines.{line_item}
-use Rattle.pr_script.specs.Reading.{IsCut, Means, Sofar, after, all_lines, ended, is_skipped, next, numbered, passed, phase_fault, script_of, start, told, unless_fault}
+use Rattle.pr_script.specs.Reading.{Means, Sofar, after, all_lines, ended, is_skipped, next, numbered, passed, phase_fault, script_of, start, told, unless_fault}
 use Rattle.pr_top.specs.Sizes.{IsTooLarge, but_last, line_ends}
 use Rattle.pr_top.proofs.Counting.{ends_append, ends_but_last, ends_split}
 

@@ -6,7 +6,7 @@ use Rattle.pr_script.specs.declared.script.Script.{Script}
 use Rattle.pr_script.specs.Steps.{Numbered, Step, steps_of}
 use Rattle.pr_story.specs.History.{NodeEntry}
 use Rattle.pr_story.specs.Scripts.{EachJob, Expect, Detach, Flow, Job, JobBegins, JobEntry, JobGives, Line, LineBegins, LineGives, Order, Phase, Settle, Single, attached_after, of_job}
-use Rattle.pr_text.specs.Histories.{EachGives, attached_by, first_of, joined, last_part, streams_of, unmet_at, unmet_from}
+use Rattle.pr_text.specs.Histories.{EachGives, attached_by, first_of, last_part, streams_of, unmet_at, unmet_from}
 use Rattle.pr_text.specs.Steps.{step_line}
 use Rattle.pr_text.proofs.RunsOn.{expects_more, gives_more}
 use Rattle.pr_top.specs.Progress.{HasGiven, IsMadeBy}

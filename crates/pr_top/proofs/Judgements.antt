@@ -1,9 +1,9 @@
 -- What a text that was read to its end is judged to be.
-use Rattle.std.proofs.Common.{◌≡◌, ◌⊎◌, ◌+◌, ◌-◌, ◌<◌, ◌≤◌, ℕ, List, [], ◌++◌, Option, None, Some, Result, Ok, Err, inl, inr, refl, sym, ◌∙◌, ap, subst, length, length-append, take, arith}
-use Rattle.std.specs.Prelude.{IfSome, IfOk, IfErr, is_err, OnErr, OnOk, true, false}
+use Rattle.std.proofs.Common.{◌≡◌, ◌+◌, ◌-◌, ◌<◌, ◌≤◌, ℕ, List, [], ◌++◌, Option, None, Some, Result, Ok, Err, sym, ◌∙◌, ap, subst, length, length-append, take, arith}
+use Rattle.std.specs.Prelude.{IfSome}
 use Rattle.std.specs.Io.KnownBytes.{Appends, Consumes, IsAtEnd}
 use Rattle.std.proofs.lemmas.List.{append-nil, length-take-le}
-use Rattle.pr_check.specs.Texts.{IsJudged, IsTranscriptOf, judgement_line}
+use Rattle.pr_check.specs.Texts.{IsJudged, judgement_line}
 use Rattle.pr_check.specs.declared.judgement.Judgement.{Judgement}
 use Rattle.pr_check.specs.declared.judgement.Judgement.TheVariants as judgements
 use Rattle.pr_ports.specs.Faults.{HasRisen}

@@ -1,7 +1,5 @@
 -- What a kept run leaves of its disk.
-use Rattle.std.proofs.Common.{◌≡◌, ◌⊎◌, ◌≤◌, ◌<◌, ◌+◌, ◌*◌, ◌-◌, inl, inr, ℕ, List, [], ◌++◌, Option, None, Result, Ok, Err, refl, sym, ◌∙◌, ap, subst, arith, length, map, reverse, take}
-use Rattle.std.specs.Prelude.{IsErrOf}
-use Rattle.std.specs.Io.KnownBytes.{Appends}
+use Rattle.std.proofs.Common.{◌≡◌, ◌+◌, ◌*◌, ◌-◌, inl, inr, ℕ, List, [], Option, None, refl, sym, ◌∙◌, ap, subst, arith, length, reverse, take}
 use Rattle.std.proofs.lemmas.List.{take-map}
 use Rattle.pr_keep.specs.Calls.{HasCause, HasCountedBelow, IsNotDamaged, fails, succeeds}
 use Rattle.pr_keep.specs.Disk.{State, counted}
@@ -13,14 +11,11 @@ use Rattle.pr_keep.specs.declared.keep.Keep.{Keep}
 use Rattle.pr_script.specs.declared.script.Script.{Script}
 use Rattle.pr_story.specs.declared.entry.Entry.{Entry}
 use Rattle.pr_story.specs.History.{NodeEntry}
-use Rattle.pr_text.specs.Heads.{heads_text}
-use Rattle.pr_top.specs.Kept.{EndsOn, HasEndedKept, HasMadeFile, HasMadeNone, HasRunKept, HasStoppedKept, KeepsOn, KeepsShort, StopsOn, placed}
+use Rattle.pr_top.specs.Kept.{EndsOn, HasMadeFile, HasRunKept, StopsOn, placed}
 use Rattle.pr_top.specs.KeptProgress.{HasEndedSo, HasStoppedAt, IsUnmade, KeepsEnded}
-use Rattle.pr_top.specs.Progress.{entry_lines}
 use Rattle.pr_top.specs.declared.keeping.KeptEnd.{KeptEnd}
 use Rattle.pr_top.specs.declared.keeping.KeptEnd.TheVariants as ends
 use Rattle.pr_top.specs.declared.status.Status.{Status}
-use Rattle.pr_top.specs.declared.status.Status.TheVariants as status
 use Rattle.pr_top.proofs.KeptTold.{none_halted}
 use Rattle.pr_top.proofs.Written.{appends_none, risen_then}
 

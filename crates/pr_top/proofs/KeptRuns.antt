@@ -1,5 +1,5 @@
 -- What comes of running a script's commands where each entry is kept.
-use Rattle.std.proofs.Common.{◌≡◌, ◌⊎◌, ◌≤◌, ◌<◌, ◌+◌, ◌-◌, inl, inr, ℕ, List, [], ◌∷◌, ◌++◌, Option, Result, Ok, Err, refl, sym, ◌∙◌, ap, subst, arith, drop, length, min, reverse, take}
+use Rattle.std.proofs.Common.{◌≡◌, ◌⊎◌, ◌≤◌, ◌<◌, ◌+◌, ◌-◌, inl, inr, ℕ, List, [], ◌++◌, Option, Result, Ok, Err, refl, sym, ◌∙◌, ap, subst, arith, drop, length, min, reverse, take}
 use Rattle.std.specs.Io.KnownBytes.{Appends}
 use Rattle.std.proofs.lemmas.List.{drop-drop, length-append, length-reverse, length-take, reverse-append, reverse-reverse, take_all}
 use Rattle.std.proofs.Math.Seq.{take-append-add, take-append_seam}
@@ -20,7 +20,7 @@ use Rattle.pr_sim.specs.Making.{declared_of}
 use Rattle.pr_top.specs.Downs.{HasTrueDowns, TellsTrueDowns}
 use Rattle.pr_top.specs.Runs.{all_sound}
 use Rattle.pr_top.specs.Kept.{IsStoppedIn, KeepsOn, KeepsShort, placed}
-use Rattle.pr_top.specs.KeptProgress.{HasHalted, HasKeptAll, HasKeptFrom, HasStoppedAt, IsHalted, WritesHalted, break_of}
+use Rattle.pr_top.specs.KeptProgress.{HasHalted, HasKeptAll, HasKeptFrom, IsHalted, WritesHalted, break_of}
 use Rattle.pr_top.specs.Progress.{HasCome, HasStopped, IsHalt, IsHistoryOver, IsMadeBy, Writes, entry_lines}
 use Rattle.pr_top.specs.declared.keeping.Break.{Break}
 use Rattle.pr_top.specs.declared.keeping.Break.TheVariants as breaks

@@ -1,6 +1,5 @@
 -- The transcript of a run where each entry is kept.
-use Rattle.std.proofs.Common.{◌≡◌, ◌⊎◌, ◌≤◌, ◌+◌, inl, inr, ℕ, List, [], ◌∷◌, ◌++◌, Option, Some, None, Result, Ok, Err, refl, sym, ◌∙◌, ap, subst, append_assoc, arith, codes, length, reverse, take}
-use Rattle.std.specs.Prelude.{IfOk}
+use Rattle.std.proofs.Common.{◌≡◌, ◌+◌, inl, inr, ℕ, List, [], ◌++◌, Option, Some, None, Ok, Err, refl, sym, ◌∙◌, ap, subst, append_assoc, arith, codes, length, reverse, take}
 use Rattle.std.specs.Io.KnownBytes.{Appends}
 use Rattle.std.proofs.lemmas.List.{take_all}
 use Rattle.pr_keep.specs.Disk.{State}
@@ -18,7 +17,7 @@ use Rattle.pr_text.proofs.Runs.{runs_give}
 use Rattle.pr_top.specs.Downs.{HasTrueDowns}
 use Rattle.pr_top.specs.Kept.{KeepsOn, placed}
 use Rattle.pr_top.specs.KeptProgress.{EndsHalted, HasEndedSo, HasHalted, HasKeptAll, HasKeptTold, IsHalted, KeepsEnded, KeepsHalted, TellsHalted, WritesHalted}
-use Rattle.pr_top.specs.Progress.{HasCome, HasTold, IsExpected, IsHistoryOver, Writes, entry_lines}
+use Rattle.pr_top.specs.Progress.{HasCome, IsExpected, IsHistoryOver, Writes, entry_lines}
 use Rattle.pr_top.specs.Runs.{all_sound, HasRun, WritesLine, told_text}
 use Rattle.pr_top.specs.Unended.{TellsEnd}
 use Rattle.pr_top.specs.declared.keeping.Break.{Break}

@@ -1,5 +1,5 @@
 -- Runs that stopped, with marks on the jobs of their last phase.
-use Rattle.std.proofs.Common.{◌≡◌, ℕ, ◌+◌, ◌<◌, List, [], ◌∷◌, ◌++◌, ◌⊎◌, inl, inr, refl, sym, ◌∙◌, ap, subst, filter, get_or, reverse, suc, zero, Result, Ok, Err, arith}
+use Rattle.std.proofs.Common.{ℕ, ◌+◌, List, [], ◌∷◌, ◌++◌, inl, inr, sym, subst, filter, get_or, reverse, suc, Result, Ok, Err, arith}
 use Rattle.std.specs.Prelude.{All, Bool, false}
 use Rattle.pr_crew.specs.Phases.{IsStopCause, is_went}
 use Rattle.pr_crew.specs.Tasks.{first_of_two, first_stop}
@@ -10,7 +10,7 @@ use Rattle.pr_story.specs.History.{NodeEntry}
 use Rattle.pr_story.specs.Phases.{AreBegunAs, EachJobAs, LineBeginsAs}
 use Rattle.pr_story.specs.Scripts.{AreBegun, ByTime, Detach, EachJob, Expect, Flow, Job, JobAfterJob, JobBegins, JobEntry, Line, LineBegins, Order, Phase, Settle, Single, attached_after}
 use Rattle.pr_story.proofs.Phases.{marked_phases}
-use Rattle.pr_top.specs.Stopping.{HasStoppedBeside, IsCutOff}
+use Rattle.pr_top.specs.Stopping.{IsCutOff}
 
 -- ---- no job is known to be whole
 

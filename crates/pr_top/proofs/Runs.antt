@@ -32,7 +32,7 @@ use Rattle.pr_top.proofs.Coming.{begun, ended}
 use Rattle.pr_top.proofs.Downs.{downs_of, next_downs}
 use Rattle.pr_top.proofs.Lines.{lines_split}
 use Rattle.pr_top.proofs.Promised.{headline}
-use Rattle.pr_top.proofs.Written.{appends_none, appends_then, front_of, lines_are, writes_then}
+use Rattle.pr_top.proofs.Written.{appends_then, front_of, lines_are, writes_then}
 
 pub told_within : (new h : List NodeEntry) (told : ℕ) → told ≡ length h → told ≤ length (new ++ h)
 told_within new h told is = let l = length-append new h in omega arith

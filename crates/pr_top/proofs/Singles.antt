@@ -13,11 +13,11 @@ use Rattle.pr_sim.specs.Commands.{StepEnds, attached_of}
 use Rattle.pr_sim.specs.declared.engine.Engine.{Engine}
 use Rattle.pr_story.specs.Counts.{Declared}
 use Rattle.pr_story.specs.History.{NodeEntry}
-use Rattle.pr_story.specs.Phases.{EachJobAs, IsPhaseAs, LineBeginsAs}
-use Rattle.pr_story.specs.Scripts.{ByTime, Detach, EachJob, Expect, Flow, IsPhase, Job, JobAfterJob, JobBegins, JobEntry, JobGives, Line, LineBegins, LineGives, Order, Phase, Precedes, Settle, Single, made_of}
+use Rattle.pr_story.specs.Phases.{IsPhaseAs, LineBeginsAs}
+use Rattle.pr_story.specs.Scripts.{ByTime, Detach, Expect, Flow, IsPhase, Job, JobAfterJob, JobBegins, JobEntry, JobGives, Line, LineBegins, LineGives, Order, Phase, Precedes, Settle, Single}
 use Rattle.pr_text.specs.Steps.{line_of}
 use Rattle.pr_top.specs.Runs.{IsUnsound}
-use Rattle.pr_top.specs.Stopping.{HasStoppedBeside, IsCutOff, StepsSo}
+use Rattle.pr_top.specs.Stopping.{IsCutOff, StepsSo}
 
 -- the line has no job
 abbrev pub IsSingle : Line → Type 0

@@ -1,7 +1,7 @@
 -- What the engine's answer makes of a run.
 use Rattle.std.proofs.Common.{◌≡◌, ℕ, suc, ◌+◌, ◌-◌, ◌<◌, ◌≤◌, List, [], ◌∷◌, ◌++◌, Result, Ok, Err, inr, refl, sym, ◌∙◌, ap, subst, cond, drop, filter, get_or, length, not, reverse, take, arith}
 use Rattle.std.specs.Prelude.{true, false, Bool, IsTrue, Some, None, Option}
-use Rattle.std.specs.List.{AllByRecursion, position_or_len}
+use Rattle.std.specs.List.{position_or_len}
 use Rattle.std.proofs.lemmas.List.{get_or_push, length-reverse, reverse-reverse}
 use Rattle.pr_flow.specs.declared.stop.Stop.{Stop}
 use Rattle.pr_flow.specs.declared.stop.Stop.TheVariants as stops
@@ -10,7 +10,7 @@ use Rattle.pr_script.specs.declared.command.Command.{Command}
 use Rattle.pr_script.specs.declared.command.Command.TheVariants as commands
 use Rattle.pr_script.specs.declared.want.Want.{Want}
 use Rattle.pr_script.specs.declared.script.Script.{Script}
-use Rattle.pr_script.specs.Good.{AreGoodSteps, IsGoodCommand, IsGoodJobLine, IsGoodPhase}
+use Rattle.pr_script.specs.Good.{AreGoodSteps, IsGoodCommand, IsGoodPhase}
 use Rattle.pr_script.specs.Known.{is_read}
 use Rattle.pr_script.specs.Known as known
 use Rattle.pr_script.specs.Steps.{Alone, Numbered, Step, is_end, is_phase, steps_of}

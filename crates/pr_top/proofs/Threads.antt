@@ -1,15 +1,14 @@
 -- What a phase in threads asks of a run, and what it gives.
-use Rattle.std.proofs.Common.{◌≡◌, ◌≢◌, ℕ, zero, suc, ◌+◌, ◌<◌, ◌≤◌, List, [], ◌∷◌, ◌++◌, refl, sym, ◌∙◌, ap, subst, filter, fold, get_or, length, reverse, cond, Result, Ok, Err, ◌⊎◌, inl, inr, arith}
-use Rattle.std.specs.Prelude.{All, AllPairs, Bool, true, false, IsTrue, Option, None, Some, is_some, nat_lt, ◌==◌, ◌&&◌}
-use Rattle.std.specs.List.{AllByRecursion, list_any}
+use Rattle.std.proofs.Common.{◌≡◌, ◌≢◌, ℕ, zero, suc, ◌<◌, ◌≤◌, List, [], ◌∷◌, ◌++◌, refl, sym, ◌∙◌, ap, subst, filter, fold, get_or, length, reverse, cond, Result, Ok, Err, inl, inr, arith}
+use Rattle.std.specs.Prelude.{All, Bool, true, false, IsTrue, Option, None, Some, is_some, nat_lt, ◌==◌, ◌&&◌}
+use Rattle.std.specs.List.{AllByRecursion}
 use Rattle.std.proofs.lemmas.Bool.Decides.{Decides-eqb, Decides-ltb}
 use Rattle.std.proofs.lemmas.Map.Views.{any-filter_same}
 use Rattle.std.proofs.lemmas.Option.{same_Some}
 use Rattle.pr_crew.specs.Asking.{IsShort}
-use Rattle.pr_crew.specs.Phases.{AllWork, AreDistinct, CanRunJob, CanRunPhase, LeavesPhase, PhaseEnds, RepresentsNodes, SameAttached, is_went}
+use Rattle.pr_crew.specs.Phases.{AllWork, AreDistinct, CanRunJob, CanRunPhase, LeavesPhase, RepresentsNodes, SameAttached, is_went}
 use Rattle.pr_flow.specs.declared.stop.Stop.{Stop}
 use Rattle.pr_flow.specs.declared.stop.Stop.TheVariants as stops
-use Rattle.pr_inval.specs.Standing.{Remembered}
 use Rattle.pr_node.specs.Stored.{Stored, means}
 use Rattle.pr_stamps.specs.declared.no_memory.NoMemory.{NoMemory}
 use Rattle.pr_script.specs.declared.command.Command.{Command}
@@ -19,17 +18,16 @@ use Rattle.pr_script.specs.declared.decl.Decl.TheVariants as decls
 use Rattle.pr_script.specs.declared.kind.Kind.TheVariants as kinds
 use Rattle.pr_script.specs.declared.owner.Owner.{Owner}
 use Rattle.pr_script.specs.declared.owner.Owner.TheVariants as owner
-use Rattle.pr_script.specs.Good.{IsGoodCommand, IsGoodDecl, IsGoodJobLine, IsGoodPhase}
+use Rattle.pr_script.specs.Good.{IsGoodDecl, IsGoodJobLine, IsGoodPhase}
 use Rattle.pr_script.specs.Known.{has_number}
 use Rattle.pr_script.specs.Labels.{count_of, is_kind, labels_of}
 use Rattle.pr_script.specs.Steps.{Numbered, has_owner, owner_of, owners_of, with_owner}
 use Rattle.pr_flow.specs.Lies.{IsNoLie}
 use Rattle.pr_sim.specs.Commands.{attached_of}
 use Rattle.pr_sim.specs.Holding.{KeepsRecords, held_of}
-use Rattle.pr_sim.specs.Making.{declared_of}
 use Rattle.pr_sim.specs.Running.{IsRunning, Tells}
 use Rattle.pr_sim.specs.declared.engine.Engine.{Engine}
-use Rattle.pr_sim.proofs.Represented.{represents, runs}
+use Rattle.pr_sim.proofs.Represented.{runs}
 use Rattle.pr_sim.proofs.Step.{within_of}
 use Rattle.pr_story.specs.Counts.{Declared}
 use Rattle.pr_story.specs.History.{NodeEntry, journal}
@@ -38,7 +36,7 @@ use Rattle.pr_story.specs.Scripts.{ByTime, Phase}
 use Rattle.pr_story.proofs.Begun.{nothing_begins}
 use Rattle.pr_story.proofs.Phases.{marked_phases}
 use Rattle.pr_text.specs.Steps.{jobs_of}
-use Rattle.pr_text.specs.Transcripts.{no_decl, plan_of, stream_of}
+use Rattle.pr_text.specs.Transcripts.{no_decl, stream_of}
 use Rattle.pr_text.proofs.Apart.{phases_apart}
 use Rattle.pr_top.specs.Runs.{IsUnsound}
 use Rattle.pr_top.specs.Stopping.{IsReadyFor, StepsSo}

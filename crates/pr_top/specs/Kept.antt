@@ -1,7 +1,7 @@
 -- A run whose entries are kept on a disk (docs/KEPT.md).
-use Rattle.std.specs.Prelude.{◌≡◌, ◌≢◌, ◌⊎◌, ◌≤◌, ◌<◌, ◌+◌, ◌*◌, ◌++◌, ℕ, List, [], ◌∷◌, Bool, false, Option, Some, None, Result, Ok, Err, filter, length, map, min, reverse, take}
+use Rattle.std.specs.Prelude.{◌≡◌, ◌≢◌, ◌⊎◌, ◌≤◌, ◌<◌, ◌+◌, ◌*◌, ◌++◌, ℕ, List, [], ◌∷◌, false, Option, None, filter, length, map, min, reverse, take}
 use Rattle.std.specs.Io.KnownBytes.{Appends}
-use Rattle.pr_keep.specs.Calls.{HasCause, HasCountedBelow, IsNotDamaged, fails, succeeds}
+use Rattle.pr_keep.specs.Calls.{HasCause, HasCountedBelow, fails, succeeds}
 use Rattle.pr_keep.specs.Disk.{LeavesOnly, Only, State, counted}
 use Rattle.pr_keep.specs.Files.{StandsFor}
 use Rattle.pr_keep.specs.Keeping.{Keeps, disk_of}

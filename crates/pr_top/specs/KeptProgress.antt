@@ -1,5 +1,5 @@
 -- How far a kept run has come.
-use Rattle.std.specs.Prelude.{◌≡◌, ◌⊎◌, ◌≤◌, ◌+◌, ◌++◌, ℕ, List, [], Bool, Option, Some, None, Result, Ok, Err, codes, length, min, reverse, take}
+use Rattle.std.specs.Prelude.{◌≡◌, ◌⊎◌, ◌≤◌, ◌+◌, ◌++◌, ℕ, List, [], Option, Some, None, Result, Ok, Err, codes, length, min, reverse, take}
 use Rattle.std.specs.Io.KnownBytes.{Appends}
 use Rattle.pr_keep.specs.Calls.{IsNotDamaged}
 use Rattle.pr_keep.specs.Disk.{State}

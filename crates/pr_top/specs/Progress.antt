@@ -1,5 +1,5 @@
 -- How far the run of a script has come.
-use Rattle.std.specs.Prelude.{◌≡◌, ◌⊎◌, ◌≤◌, ◌<◌, ◌+◌, ◌++◌, ℕ, List, [], ◌∷◌, Bool, false, IsTrue, Option, Some, None, Result, Ok, Err, drop, filter, length, map, reverse, take}
+use Rattle.std.specs.Prelude.{◌≡◌, ◌⊎◌, ◌<◌, ◌+◌, ◌++◌, ℕ, List, [], ◌∷◌, Bool, false, IsTrue, Option, Some, None, Result, Ok, Err, drop, filter, length, map, reverse, take}
 use Rattle.std.specs.Io.KnownBytes.{Appends}
 use Rattle.std.specs.List.{flat_map}
 use Rattle.pr_script.specs.declared.decl.Decl.{Decl}

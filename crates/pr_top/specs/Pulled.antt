@@ -22,8 +22,6 @@ use Rattle.pr_top.specs.Runs.{IsLine, WritesLine, told_text}
 use Rattle.pr_top.specs.Served.{node_after, status_of}
 use Rattle.pr_top.specs.declared.status.Status.{Status}
 use Rattle.pr_top.specs.declared.status.Status.TheVariants as status
-use Rattle.pr_top.specs.declared.stepping.Halt.{Halt}
-use Rattle.pr_top.specs.declared.stepping.Halt.TheVariants as halts
 
 -- ---- what the node takes in
 

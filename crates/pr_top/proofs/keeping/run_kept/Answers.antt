@@ -1,13 +1,8 @@
-use Rattle.std.proofs.Common.{◌≡◌, ◌+◌, ◌∙◌, Err, List, Ok, Option, ap, length, min, subst, sym, ℕ}
+use Rattle.std.proofs.Common.{◌+◌, ◌∙◌, Err, List, ap, length, min, subst}
 use Rattle.pr_ports.specs.Faults.{HasRisen}
 use Rattle.pr_script.specs.declared.decl.Decl.{Decl}
-use Rattle.pr_top.specs.KeptProgress.{HasEndedSo, HasKeptTold}
-use Rattle.pr_top.specs.Runs.{WritesLine}
+use Rattle.pr_top.specs.KeptProgress.{HasKeptTold}
 use Rattle.pr_top.specs.declared.keeping.Break.{Break}
-use Rattle.pr_top.specs.declared.keeping.KeptEnd.TheVariants as ends
-use Rattle.pr_top.specs.declared.running.Expected.{Expected}
-use Rattle.pr_top.specs.declared.status.Status.{Status}
-use Rattle.pr_top.specs.declared.status.Status.TheVariants as status
 use Rattle.pr_top.proofs.KeptTold.{ends_halted, ends_told}
 use Rattle.pr_top.proofs.Written.{risen_before, risen_then}
 use Rattle.pr_top.proofs.keeping.run_kept.Goals as goal

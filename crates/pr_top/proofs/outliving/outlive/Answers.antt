@@ -1,11 +1,5 @@
-use Rattle.std.proofs.Common.{◌≡◌, ◌≤◌, List, Ok, Option, arith, subst, sym, ℕ}
+use Rattle.std.proofs.Common.{◌≤◌, arith}
 use Rattle.pr_ports.specs.Faults.{HasRisen}
-use Rattle.pr_top.specs.Outlived.{HasOutlived}
-use Rattle.pr_top.specs.Resuming.{TellsHeld}
-use Rattle.pr_top.specs.Runs.{WritesLine}
-use Rattle.pr_top.specs.declared.running.Expected.{Expected}
-use Rattle.pr_top.specs.declared.status.Status.{Status}
-use Rattle.pr_top.specs.declared.status.Status.TheVariants as status
 use Rattle.pr_top.proofs.OutlivedTexts.{outlived_ended, outlived_halted}
 use Rattle.pr_top.proofs.StoppedDisks.{can_resume}
 use Rattle.pr_top.proofs.Written.{risen_before, risen_then}

@@ -1,4 +1,4 @@
-use Rattle.std.proofs.Common.{◌≡◌, ◌≤◌, ◌+◌, ◌-◌, ◌++◌, [], Err, List, Result, ap, arith, drop, length, refl, reverse, rules, subst, sym, ℕ}
+use Rattle.std.proofs.Common.{◌≡◌, ◌≤◌, ◌+◌, ◌++◌, [], Err, List, Result, ap, arith, drop, length, refl, reverse, rules, subst, sym, ℕ}
 use Rattle.std.proofs.lemmas.Result.{err_from_is_err_and}
 use Rattle.pr_ports.specs.Faults.{HasRisen}
 use Rattle.pr_script.specs.Steps.{Numbered}

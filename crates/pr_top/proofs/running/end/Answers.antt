@@ -1,4 +1,4 @@
-use Rattle.std.proofs.Common.{◌+◌, ◌∙◌, List, Option, Result, ap, length, subst, ℕ}
+use Rattle.std.proofs.Common.{◌+◌, ◌∙◌, List, ap, length, subst, ℕ}
 use Rattle.pr_ports.specs.Faults.{HasRisen}
 use Rattle.pr_script.specs.declared.decl.Decl.{Decl}
 use Rattle.pr_sim.specs.Making.{declared_of}

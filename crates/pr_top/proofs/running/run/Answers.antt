@@ -1,4 +1,3 @@
-use Rattle.std.proofs.Common.{◌≡◌, refl, subst}
 use Rattle.pr_story.specs.Scripts.{JobAfterJob}
 use Rattle.pr_top.specs.Runs.{all_sound}
 use Rattle.pr_top.proofs.Runs.{ends_well}

@@ -1,4 +1,4 @@
-use Rattle.std.proofs.Common.{◌≡◌, Err, Ok, Option, Result, length, subst, sym, ◌+◌}
+use Rattle.std.proofs.Common.{◌≡◌, Err, Option, Result, length, subst, sym, ◌+◌}
 use Rattle.std.proofs.lemmas.Result.{err_from_is_err_and}
 use Rattle.pr_ports.specs.Faults.{HasRisen}
 use Rattle.pr_sim.specs.Making.{declared_of}

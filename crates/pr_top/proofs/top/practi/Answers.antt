@@ -2,7 +2,7 @@ use Rattle.std.proofs.Common.{map, refl}
 use Rattle.std.specs.Prelude.{string_bytes}
 use Rattle.pr_words.specs.Words.{job_of}
 use Rattle.pr_top.specs.Answers.{ports_of}
-use Rattle.pr_top.proofs.Unread.{line_answers, other_answers}
+use Rattle.pr_top.proofs.Unread.{line_answers}
 use Rattle.pr_top.proofs.top.practi.Goals as goal
 
 pub returns-in-Err-NoMemory : goal.returns-in-Err-NoMemory

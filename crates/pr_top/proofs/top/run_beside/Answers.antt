@@ -1,4 +1,3 @@
-use Rattle.std.proofs.Common.{◌≤◌, length}
 use Rattle.pr_top.specs.Answers.{RunsOver, ports_of}
 use Rattle.pr_top.proofs.FewLines.{few_commands}
 use Rattle.pr_top.proofs.OverAnswers.{over_answers}

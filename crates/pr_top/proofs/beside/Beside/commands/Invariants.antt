@@ -1,4 +1,4 @@
-use Rattle.std.proofs.Common.{◌≡◌, ◌≤◌, ◌+◌, ◌*◌, ◌-◌, drop, length}
+use Rattle.std.proofs.Common.{◌≡◌, ◌≤◌, ◌*◌, ◌-◌, drop, length}
 use Rattle.pr_sim.specs.Making.{declared_of}
 use Rattle.pr_story.specs.Scripts.{ByTime}
 use Rattle.pr_top.specs.Carrying.{TellsCarried}

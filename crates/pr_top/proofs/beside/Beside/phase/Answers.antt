@@ -1,9 +1,8 @@
-use Rattle.std.proofs.Common.{◌≡◌, ◌∷◌, ◌+◌, ◌-◌, ◌<◌, ◌≤◌, List, Result, Ok, Err, arith, length, sym, subst, refl, take, ℕ}
+use Rattle.std.proofs.Common.{◌≡◌, ◌∷◌, ◌+◌, ◌-◌, ◌<◌, List, Result, Ok, Err, arith, length, sym, subst, take, ℕ}
 use Rattle.std.proofs.lemmas.Result.{err_from_is_err_and}
 use Rattle.pr_script.specs.Steps.{Numbered}
 use Rattle.pr_sim.specs.Making.{declared_of}
-use Rattle.pr_story.specs.Scripts.{ByTime, Phase}
-use Rattle.pr_text.specs.Steps.{jobs_of}
+use Rattle.pr_story.specs.Scripts.{ByTime}
 use Rattle.pr_crew.specs.Carrying.{PhaseCarries}
 use Rattle.pr_top.specs.Carrying.{StepCarries}
 use Rattle.pr_top.specs.Progress.{HasStepped}

@@ -32,3 +32,12 @@ pub returns-in-Expect-clause-downs : goal.returns-in-Expect-clause-downs
 returns-in-Expect-clause-downs g c = λ s h k.
     same_downs ByTime s (g.W.Wires.sound c.args.wires.now) c.args.behind.now h c.judge.new.self.engine c.judge.new.self.unmet
     (c.judge.ensures ByTime s h (subst (λ (x : Command). HasCome ByTime s ((c.args.first.now.0, x) ∷ c.args.behind.now) h c.args.run.now.engine c.args.run.now.unmet) c.in-Expect.is k))
+
+pub returns-in_default-clause-steps : goal.returns-in_default-clause-steps
+returns-in_default-clause-steps g c = λ s h k. c.alone.ensures.steps ByTime s h k
+
+pub returns-in_default-clause-downs : goal.returns-in_default-clause-downs
+returns-in_default-clause-downs g c = λ s h k. c.alone.ensures.downs ByTime s h k
+
+pub returns-in_default-clause-carried : goal.returns-in_default-clause-carried
+returns-in_default-clause-carried g c = λ s h k. c.alone.ensures.carried s h k

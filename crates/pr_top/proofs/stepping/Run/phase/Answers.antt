@@ -1,4 +1,4 @@
-use Rattle.std.proofs.Common.{◌≡◌, ◌∷◌, ◌+◌, ◌-◌, ◌<◌, ◌≤◌, List, Result, Ok, Err, arith, length, sym, subst, refl, take, ℕ}
+use Rattle.std.proofs.Common.{◌≡◌, ◌∷◌, ◌+◌, ◌-◌, ◌<◌, List, Result, Ok, Err, arith, length, sym, subst, refl, take, ℕ}
 use Rattle.std.proofs.lemmas.Result.{err_from_is_err_and}
 use Rattle.pr_script.specs.Steps.{Numbered}
 use Rattle.pr_sim.specs.Making.{declared_of}

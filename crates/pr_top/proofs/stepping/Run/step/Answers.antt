@@ -25,3 +25,9 @@ pub returns-in-Expect-clause-downs : goal.returns-in-Expect-clause-downs
 returns-in-Expect-clause-downs c = λ s h k.
     same_downs JobAfterJob s all_sound c.args.behind.now h c.judge.new.self.engine c.judge.new.self.unmet
     (c.judge.ensures JobAfterJob s h (subst (λ (x : Command). HasCome JobAfterJob s ((c.args.first.now.0, x) ∷ c.args.behind.now) h c.args.self.now.engine c.args.self.now.unmet) c.in-Expect.is k))
+
+pub returns-in_default-clause-steps : goal.returns-in_default-clause-steps
+returns-in_default-clause-steps c = λ s h k. c.alone.ensures.steps JobAfterJob s h k
+
+pub returns-in_default-clause-downs : goal.returns-in_default-clause-downs
+returns-in_default-clause-downs c = λ s h k. c.alone.ensures.downs JobAfterJob s h k
