@@ -7,13 +7,19 @@ use pr_top::{Status, practi, tell};
 use pr_wires::LoopWires;
 use std::alloc::AllocError;
 use std::env;
-use std::io::{self, ErrorKind};
+use std::io::{self, BufWriter, ErrorKind, Write};
 use std::process::ExitCode;
 
+// How many bytes are gathered before they are written.
+const BUFFER: usize = 65_536;
+
 fn main(rt: HostRuntime) -> ExitCode {
+    let Ok(mut buffer) = BufWriter::with_capacity(rt.alloc(), BUFFER, io::writer(&rt)) else {
+        return refused(&rt);
+    };
     let mut script = ReaderSource::new(rt.reader());
-    let mut out = WriterSink::new(io::writer(&rt));
     let mut wires = LoopWires::new(&rt);
+    let mut out = WriterSink::new(&mut buffer);
     let status = match words(&rt) {
         Ok(words) => practi(
             &rt,
@@ -27,7 +33,22 @@ fn main(rt: HostRuntime) -> ExitCode {
         Err(Status::NoMemory) => tell(&mut out, Status::NoMemory, b"error no memory\n"),
         Err(status) => tell(&mut out, status, b"error usage\n"),
     };
-    ExitCode::from(status.number())
+    drop(out);
+    ExitCode::from(flushed(status, &mut buffer).number())
+}
+
+// Tells that there is no memory to gather bytes in.
+fn refused(rt: &HostRuntime) -> ExitCode {
+    let mut out = WriterSink::new(io::writer(rt));
+    ExitCode::from(tell(&mut out, Status::NoMemory, b"error no memory\n").number())
+}
+
+// Writes what was gathered. A call that did all is no success where that fails.
+fn flushed<W: Write>(status: Status, to: &mut W) -> Status {
+    match (to.flush(), status) {
+        (Err(_), Status::Ok) => Status::WriteFault,
+        (_, status) => status,
+    }
 }
 
 // The words behind the program's own name. Words that are no text are not accepted.
