@@ -1,6 +1,7 @@
 -- The merge of the nodes' known writes past a position, in the order of stamps.
 use Rattle.std.proofs.Common.{◌≡◌, ℕ, ◌≤◌, ◌<◌, ◌+◌, zero, suc, List, [], ◌∷◌, length, set, Option, None, Some, Bool, true, false, refl, sym, ◌∙◌, ap, subst, arith, nat_lt, inl, inr, ◌≢◌, cond}
-use Rattle.std.specs.Prelude.{◌⊎◌}
+use Rattle.std.specs.Prelude.{◌⊎◌, option_copied}
+use Rattle.std.specs.Borrow.{Bor}
 use Rattle.std.specs.Ordering.{is_eq, nat_cmp}
 use Rattle.std.proofs.lemmas.List.{get_or-set_same, get_or-set_other}
 use Rattle.std.proofs.lemmas.List.Sums.{sum_by-cons}
@@ -73,7 +74,7 @@ abbrev pub left_at : List (ℕ × WriteRec) → Option WriteRec → ℕ
 left_at row None = 0
 left_at row (Some w) = count_above row w.stamp.clock + 1
 
-abbrev pub left : List (List (ℕ × WriteRec)) → List (Option WriteRec) → ℕ
+abbrev pub left : List (List (ℕ × WriteRec)) → List (Option (Bor WriteRec)) → ℕ
 left rows heads = total (λ n. left_at (row_of rows n) (head_of heads n)) 32
 
 abbrev pub IsReached : Option WriteRec → ℕ → Type 0
@@ -142,7 +143,7 @@ before_more qc qn bc bn ac an one two three = grind (arith, nat_tests)
 not_itself : (c n : ℕ) → ¬ ((c < c) ⊎ ((c ≡ c) × (n < n)))
 not_itself c n h = grind (arith, nat_tests)
 
-pub least_more : (heads : List (Option WriteRec)) (n : ℕ) (a b r : Option WriteRec) → IsLeastHead heads n a → head_of heads n ≡ b → IsLesser a b r → IsLeastHead heads (n + 1) r
+pub least_more : (heads : List (Option (Bor WriteRec))) (n : ℕ) (a b r : Option WriteRec) → IsLeastHead heads n a → head_of heads n ≡ b → IsLesser a b r → IsLeastHead heads (n + 1) r
 least_more heads n None None r least is lesser = subst (IsLeastHead heads (n + 1)) (sym lesser) (λ k lt. elim (below_or k n lt) [ inl less ↦ least k less | inr here ↦ ap (head_of heads) here ∙ is ])
 least_more heads n None (Some b) r least is lesser = subst (IsLeastHead heads (n + 1)) (sym lesser) (
   n,
@@ -184,34 +185,46 @@ least_more heads n (Some a) (Some b) r (k, lt, at, least) is (inr (chosen, after
   ],
 )
 
+-- ---- the heads are found one after the other
+
+pub more_heads : (rows : List (List (ℕ × WriteRec))) (pos : List ℕ) (heads : List (Option (Bor WriteRec))) (n : ℕ) (next : Option (Bor WriteRec)) → length heads ≡ 32 → n < 32 → ((k : ℕ) → k < n → IsFirstAbove rows k (clock_of pos k) (head_of heads k)) → IsFirstAbove rows n (clock_of pos n) (option_copied next) → (k : ℕ) → k < n + 1 → IsFirstAbove rows k (clock_of pos k) (head_of (set heads n next) k)
+more_heads rows pos heads n next len lt each first k below = elim (below_or k n below) [
+  | inl less ↦
+      let ne : k ≢ n = (λ e. omega (arith, e, less)) in
+      subst (IsFirstAbove rows k (clock_of pos k)) (sym (ap option_copied (get_or-set_other heads n k next None ne))) (each k less)
+  | inr here ↦
+      subst (λ j. IsFirstAbove rows j (clock_of pos j) (head_of (set heads n next) j)) (sym here)
+      (subst (IsFirstAbove rows n (clock_of pos n)) (sym (ap option_copied (get_or-set_same heads n next None (omega (arith, len, lt))))) first)
+]
+
 -- ---- one turn, and the end
 
 -- the node of the least head is its own
-pub least_node : (rows : List (List (ℕ × WriteRec))) (pos : List ℕ) (sub : List Span) (heads : List (Option WriteRec)) (w : WriteRec) → ((n : ℕ) → n < 32 → IsHead rows pos sub n (head_of heads n)) → IsLeastHead heads 32 (Some w) → (head_of heads w.stamp.node ≡ Some w) × Has rows w × (clock_of pos w.stamp.node < w.stamp.clock)
+pub least_node : (rows : List (List (ℕ × WriteRec))) (pos : List ℕ) (sub : List Span) (heads : List (Option (Bor WriteRec))) (w : WriteRec) → ((n : ℕ) → n < 32 → IsHead rows pos sub n (head_of heads n)) → IsLeastHead heads 32 (Some w) → (head_of heads w.stamp.node ≡ Some w) × Has rows w × (clock_of pos w.stamp.node < w.stamp.clock)
 least_node rows pos sub heads w each (k, lt, at, least) =
     let is = (each k lt).known w at in
     (subst (λ n. head_of heads n ≡ Some w) (sym is.1) at, is.0, subst (λ n. clock_of pos n < w.stamp.clock) (sym is.1) is.2)
 
-pub turn_heads : (rows : List (List (ℕ × WriteRec))) (pos : List ℕ) (sub : List Span) (heads : List (Option WriteRec)) (w : WriteRec) (next : Option WriteRec) → length heads ≡ 32 → IsByStamp rows → ((n : ℕ) → n < 32 → IsHead rows pos sub n (head_of heads n)) → IsLeastHead heads 32 (Some w) → has sub w.name ≡ false → IsFirstAbove rows w.stamp.node w.stamp.clock next → (n : ℕ) → n < 32 → IsHead rows pos sub n (head_of (set heads w.stamp.node next) n)
+pub turn_heads : (rows : List (List (ℕ × WriteRec))) (pos : List ℕ) (sub : List Span) (heads : List (Option (Bor WriteRec))) (w : WriteRec) (next : Option (Bor WriteRec)) → length heads ≡ 32 → IsByStamp rows → ((n : ℕ) → n < 32 → IsHead rows pos sub n (head_of heads n)) → IsLeastHead heads 32 (Some w) → has sub w.name ≡ false → IsFirstAbove rows w.stamp.node w.stamp.clock (option_copied next) → (n : ℕ) → n < 32 → IsHead rows pos sub n (head_of (set heads w.stamp.node next) n)
 turn_heads rows pos sub heads w next len by_stamp each least out first n lt = elim (this_or_other n w.stamp.node) [
   | inl here ↦
       let is = least_node rows pos sub heads w each least in
-      subst (IsHead rows pos sub n) (sym (ap (λ k. head_of (set heads w.stamp.node next) k) here ∙ get_or-set_same heads w.stamp.node next None (omega (arith, len, here, lt))))
-      (subst (λ k. IsHead rows pos sub k next) (sym here) (next_head rows pos sub w.stamp.node w next is.1 refl is.2 out
+      subst (IsHead rows pos sub n) (sym (ap (λ k. head_of (set heads w.stamp.node next) k) here ∙ ap option_copied (get_or-set_same heads w.stamp.node next None (omega (arith, len, here, lt)))))
+      (subst (λ k. IsHead rows pos sub k (option_copied next)) (sym here) (next_head rows pos sub w.stamp.node w (option_copied next) is.1 refl is.2 out
       (λ x has_x node_x past in_sub. subst (λ h. IsReached h x.stamp.clock) is.0 ((each w.stamp.node (omega (arith, here, lt))).behind x has_x node_x past in_sub)) first))
   | inr other ↦
       let ne : n ≢ w.stamp.node = other in
-      subst (IsHead rows pos sub n) (sym (get_or-set_other heads w.stamp.node n next None ne)) (each n lt)
+      subst (IsHead rows pos sub n) (sym (ap option_copied (get_or-set_other heads w.stamp.node n next None ne))) (each n lt)
 ]
 
-pub turn_left : (rows : List (List (ℕ × WriteRec))) (heads : List (Option WriteRec)) (w : WriteRec) (next : Option WriteRec) → length heads ≡ 32 → w.stamp.node < 32 → head_of heads w.stamp.node ≡ Some w → IsFirstAbove rows w.stamp.node w.stamp.clock next → left rows (set heads w.stamp.node next) + 1 ≤ left rows heads
+pub turn_left : (rows : List (List (ℕ × WriteRec))) (heads : List (Option (Bor WriteRec))) (w : WriteRec) (next : Option (Bor WriteRec)) → length heads ≡ 32 → w.stamp.node < 32 → head_of heads w.stamp.node ≡ Some w → IsFirstAbove rows w.stamp.node w.stamp.clock (option_copied next) → left rows (set heads w.stamp.node next) + 1 ≤ left rows heads
 turn_left rows heads w next len lt at first =
     total_less (λ n. left_at (row_of rows n) (head_of heads n)) (λ n. left_at (row_of rows n) (head_of (set heads w.stamp.node next) n)) 32 w.stamp.node lt
-    (subst (λ h. left_at (row_of rows w.stamp.node) h + 1 ≤ left_at (row_of rows w.stamp.node) (head_of heads w.stamp.node)) (sym (get_or-set_same heads w.stamp.node next None (omega (arith, len, lt))))
-    (subst (λ h. left_at (row_of rows w.stamp.node) next + 1 ≤ left_at (row_of rows w.stamp.node) h) (sym at) (next_left rows w.stamp.node w.stamp.clock next first)))
-    (λ k below other. let ne : k ≢ w.stamp.node = other in subst (λ h. left_at (row_of rows k) h ≤ left_at (row_of rows k) (head_of heads k)) (sym (get_or-set_other heads w.stamp.node k next None ne)) (omega arith))
+    (subst (λ h. left_at (row_of rows w.stamp.node) h + 1 ≤ left_at (row_of rows w.stamp.node) (head_of heads w.stamp.node)) (sym (ap option_copied (get_or-set_same heads w.stamp.node next None (omega (arith, len, lt)))))
+    (subst (λ h. left_at (row_of rows w.stamp.node) (option_copied next) + 1 ≤ left_at (row_of rows w.stamp.node) h) (sym at) (next_left rows w.stamp.node w.stamp.clock (option_copied next) first)))
+    (λ k below other. let ne : k ≢ w.stamp.node = other in subst (λ h. left_at (row_of rows k) h ≤ left_at (row_of rows k) (head_of heads k)) (sym (ap option_copied (get_or-set_other heads w.stamp.node k next None ne))) (omega arith))
 
-pub start_left : (rows : List (List (ℕ × WriteRec))) (pos : List ℕ) (heads : List (Option WriteRec)) → ((n : ℕ) → n < 32 → IsFirstAbove rows n (clock_of pos n) (head_of heads n)) → left rows heads ≤ uncovered rows pos
+pub start_left : (rows : List (List (ℕ × WriteRec))) (pos : List ℕ) (heads : List (Option (Bor WriteRec))) → ((n : ℕ) → n < 32 → IsFirstAbove rows n (clock_of pos n) (head_of heads n)) → left rows heads ≤ uncovered rows pos
 start_left rows pos heads each = total_most (λ n. count_above (row_of rows n) (clock_of pos n)) (λ n. left_at (row_of rows n) (head_of heads n)) 32 (λ n lt. first_left rows n (clock_of pos n) (head_of heads n) (each n lt))
 
 -- what follows the least head, where its node and clock were read
@@ -219,13 +232,13 @@ pub follows : (rows : List (List (ℕ × WriteRec))) (node clock : ℕ) (w : Wri
 follows rows node clock w next node_is clock_is first = subst (λ n. IsFirstAbove rows n w.stamp.clock next) node_is (subst (λ c. IsFirstAbove rows node c next) clock_is first)
 
 -- a write that waits is behind the head of its node
-waits_behind : (rows : List (List (ℕ × WriteRec))) (pos : List ℕ) (sub : List Span) (heads : List (Option WriteRec)) (x : WriteRec) → IsByStamp rows → ((n : ℕ) → n < 32 → IsHead rows pos sub n (head_of heads n)) → IsWaiting rows pos sub x → IsReached (head_of heads x.stamp.node) x.stamp.clock
+waits_behind : (rows : List (List (ℕ × WriteRec))) (pos : List ℕ) (sub : List Span) (heads : List (Option (Bor WriteRec))) (x : WriteRec) → IsByStamp rows → ((n : ℕ) → n < 32 → IsHead rows pos sub n (head_of heads n)) → IsWaiting rows pos sub x → IsReached (head_of heads x.stamp.node) x.stamp.clock
 waits_behind rows pos sub heads x by_stamp each (known, in_sub, apart) = elim (less_or (clock_of pos x.stamp.node) x.stamp.clock) [
   | inl past ↦ (each x.stamp.node (by_stamp x.stamp x known).1.known_node).behind x known refl past in_sub
   | inr covered ↦ absurd (apart ((by_stamp x.stamp x known).1.from_one, covered))
 ]
 
-pub next_is : (rows : List (List (ℕ × WriteRec))) (pos : List ℕ) (sub : List Span) (heads : List (Option WriteRec)) (w : WriteRec) → IsByStamp rows → ((n : ℕ) → n < 32 → IsHead rows pos sub n (head_of heads n)) → IsLeastHead heads 32 (Some w) → has sub w.name ≡ true → IsNextOf rows pos sub (Some w)
+pub next_is : (rows : List (List (ℕ × WriteRec))) (pos : List ℕ) (sub : List Span) (heads : List (Option (Bor WriteRec))) (w : WriteRec) → IsByStamp rows → ((n : ℕ) → n < 32 → IsHead rows pos sub n (head_of heads n)) → IsLeastHead heads 32 (Some w) → has sub w.name ≡ true → IsNextOf rows pos sub (Some w)
 next_is rows pos sub heads w by_stamp each least in_sub =
     let is = least_node rows pos sub heads w each least in
     ((is.1, in_sub, λ covers. omega (arith, covers.1, is.2)), λ x waits. not_before x waits (head_of heads x.stamp.node) refl (waits_behind rows pos sub heads x by_stamp each waits))
@@ -239,6 +252,6 @@ next_is rows pos sub heads w by_stamp each least in_sub =
         let lt : x.stamp.node < 32 = (by_stamp x.stamp x waits.0).1.known_node in
         least.3 x.stamp.node u lt at (earlier x.stamp.clock x.stamp.node u.stamp.clock u.stamp.node w.stamp.clock w.stamp.node reached ((each x.stamp.node lt).known u at).1 before)
 
-pub none_is : (rows : List (List (ℕ × WriteRec))) (pos : List ℕ) (sub : List Span) (heads : List (Option WriteRec)) → IsByStamp rows → ((n : ℕ) → n < 32 → IsHead rows pos sub n (head_of heads n)) → IsLeastHead heads 32 None → IsNextOf rows pos sub None
+pub none_is : (rows : List (List (ℕ × WriteRec))) (pos : List ℕ) (sub : List Span) (heads : List (Option (Bor WriteRec))) → IsByStamp rows → ((n : ℕ) → n < 32 → IsHead rows pos sub n (head_of heads n)) → IsLeastHead heads 32 None → IsNextOf rows pos sub None
 none_is rows pos sub heads by_stamp each none x waits =
     subst (λ h. IsReached h x.stamp.clock) (none x.stamp.node (by_stamp x.stamp x waits.0).1.known_node) (waits_behind rows pos sub heads x by_stamp each waits)

@@ -1,5 +1,6 @@
 -- The next write of a stream: the first writes of the nodes, and the least of them.
-use Rattle.std.specs.Prelude.{◌≡◌, ◌⊎◌, ◌<◌, ℕ, List, Option, None, Some, slice_index_or}
+use Rattle.std.specs.Prelude.{◌≡◌, ◌⊎◌, ◌<◌, ℕ, List, Option, None, Some, option_copied, slice_index_or}
+use Rattle.std.specs.Borrow.{Bor}
 use Rattle.pr_stamps.specs.Point.{Before}
 use Rattle.pr_names.specs.Span.{Span}
 use Rattle.pr_inval.specs.declared.write_rec.WriteRec.{WriteRec}
@@ -11,11 +12,11 @@ IsNextOf rows pos sub None = (x : WriteRec) → ¬ IsWaiting rows pos sub x
 IsNextOf rows pos sub (Some t) = IsWaiting rows pos sub t × ((x : WriteRec) → IsWaiting rows pos sub x → ¬ Before x.stamp t.stamp)
 
 -- the first write of a node that is not yet looked at
-abbrev pub head_of : List (Option WriteRec) → ℕ → Option WriteRec
-head_of heads n = slice_index_or heads n None
+abbrev pub head_of : List (Option (Bor WriteRec)) → ℕ → Option WriteRec
+head_of heads n = option_copied (slice_index_or heads n None)
 
 -- of the heads of the nodes below n the least by stamp, or none
-abbrev pub IsLeastHead : List (Option WriteRec) → ℕ → Option WriteRec → Type 0
+abbrev pub IsLeastHead : List (Option (Bor WriteRec)) → ℕ → Option WriteRec → Type 0
 IsLeastHead heads n None = (k : ℕ) → k < n → head_of heads k ≡ None
 IsLeastHead heads n (Some w) =
     (k : ℕ) × (k < n) × (head_of heads k ≡ Some w)

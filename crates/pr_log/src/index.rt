@@ -7,7 +7,7 @@ ghost use Rattle.pr_sets.specs.Spans.{IsSetOf, has};
 ghost use Rattle.std.specs.Str.{bytes_eq};
 ghost use Rattle.pr_inval.specs.declared.write_rec.WriteRec.{WriteRec};
 ghost use Rattle.pr_vectors.specs.Vector.{clock_of};
-ghost use Rattle.std.specs.Prelude.{◌≡◌, ◌≤◌, ◌<◌, ◌+◌, ◌⊎◌, ◌↔◌, ◌||◌, ◌&&◌, ℕ, List, [], not, length, slice_index_or, IfNone, IfOk, IfSome, IsTrue, OnErr, OnOk, Some, false};
+ghost use Rattle.std.specs.Prelude.{◌≡◌, ◌≤◌, ◌<◌, ◌+◌, ◌⊎◌, ◌↔◌, ◌||◌, ◌&&◌, ℕ, List, [], not, length, slice_index_or, IfNone, IfOk, IfSome, IsTrue, OnErr, OnOk, Some, false, option_copied};
 
 use crate::Steps;
 use crate::collector::Collector;
@@ -69,9 +69,14 @@ impl Index {
 
     /// The known write of the node with the least clock above this one, in time logarithmic in the node's writes, as
     /// one step; None exactly where there is none.
-    pub fn next<L: Ledger>(&self, writer: u32, clock: u64, steps: &mut Steps<L>) -> Option<WriteRec>
+    pub fn next<L: Ledger>(
+        &self,
+        writer: u32,
+        clock: u64,
+        steps: &mut Steps<L>,
+    ) -> Option<&WriteRec>
         requires { writer < 32 }
-        ensures next { IsFirstAbove self.now writer clock result }
+        ensures next { IsFirstAbove self.now writer clock (option_copied result) }
         ensures step { steps.new ≡ steps.old + 1 }
     {
         steps.tick();
@@ -201,7 +206,7 @@ impl Index {
         ensures none { IfNone result ((x : WriteRec) → Has self.now x → x.stamp.node ≡ writer → from < x.stamp.clock → to < x.stamp.clock) }
     {
         match self.first_above(writer, from) {
-            Some(write) => up_to(write, to),
+            Some(write) => up_to(*write, to),
             None => None,
         }
     }
@@ -231,9 +236,9 @@ impl Index {
     }
 
     // The known write of the node with the least clock above this one. It counts no step, so no other module has it.
-    fn first_above(&self, writer: u32, clock: u64) -> Option<WriteRec>
+    fn first_above(&self, writer: u32, clock: u64) -> Option<&WriteRec>
         requires { writer < 32 }
-        ensures { IsFirstAbove self.now writer clock result }
+        ensures { IsFirstAbove self.now writer clock (option_copied result) }
     {
         self.rows[writer as usize].first_above(clock)
     }

@@ -3,7 +3,7 @@ ghost use Rattle.pr_inval.specs.declared.write_rec.WriteRec.{WriteRec};
 ghost use Rattle.pr_log.specs.Known.{IsFirstAbove, IsWaiting, uncovered};
 ghost use Rattle.pr_log.specs.Waiting.{IsLeastHead, IsLesser, IsNextOf, head_of};
 ghost use Rattle.pr_vectors.specs.Vector.{clock_of};
-ghost use Rattle.std.specs.Prelude.{◌≡◌, ◌≤◌, ◌<◌, ◌+◌, ℕ, IsTrue};
+ghost use Rattle.std.specs.Prelude.{◌≡◌, ◌≤◌, ◌<◌, ◌+◌, ℕ, IsTrue, length, option_copied};
 
 use crate::Steps;
 use crate::index::Index;
@@ -14,7 +14,7 @@ use pr_vectors::Vector;
 use std::sync::ledger::Ledger;
 
 // By node the first write that is not yet looked at.
-type Heads = [Option<WriteRec>; 32];
+type Heads<'a> = [Option<&'a WriteRec>; 32];
 
 // The least write by stamp that is to one of the names and past the position. The nodes' writes are looked at in the
 // order of stamps, so that a write is looked at only if it comes before the answer or is the first of its node. After
@@ -34,7 +34,7 @@ pub fn next_write<L: Ledger>(
     let mut looks = looks;
     while let Some(write) = least(&heads) {
         if sub.has(&write.name) {
-            return Some(write);
+            return Some(*write);
         }
         if is_none_left(index, pos, sub, looks) {
             return None;
@@ -54,7 +54,8 @@ fn is_none_left(index: &Index, pos: &Vector, sub: &NameSet, looks: usize) -> boo
 }
 
 // The first writes past the position.
-fn heads<L: Ledger>(index: &Index, pos: &Vector, steps: &mut Steps<L>) -> Heads
+fn heads<'a, L: Ledger>(index: &'a Index, pos: &Vector, steps: &mut Steps<L>) -> Heads<'a>
+    ensures len { length result ≡ 32 }
     ensures each { (n : ℕ) → n < 32 → IsFirstAbove index.now n (clock_of pos.now n) (head_of result n) }
     ensures steps { steps.new ≡ steps.old + 32 }
 {
@@ -66,23 +67,23 @@ fn heads<L: Ledger>(index: &Index, pos: &Vector, steps: &mut Steps<L>) -> Heads
 }
 
 // The least of the heads by stamp.
-fn least(heads: &Heads) -> Option<WriteRec>
-    ensures { IsLeastHead heads.now 32 result }
+fn least<'a>(heads: &Heads<'a>) -> Option<&'a WriteRec>
+    ensures { IsLeastHead heads.now 32 (option_copied result) }
 {
     let mut least = None;
     for head in heads {
-        least = lesser(&least, head);
+        least = lesser(least, *head);
     }
     least
 }
 
 // The lesser of two writes by stamp.
-fn lesser(first: &Option<WriteRec>, second: &Option<WriteRec>) -> Option<WriteRec>
-    ensures { IsLesser first.now second.now result }
+fn lesser<'a>(first: Option<&'a WriteRec>, second: Option<&'a WriteRec>) -> Option<&'a WriteRec>
+    ensures { IsLesser (option_copied first.entry) (option_copied second.entry) (option_copied result) }
 {
     match (first, second) {
-        (Some(a), Some(b)) => Some(if b.stamp.is_before(&a.stamp) { *b } else { *a }),
-        (Some(a), None) => Some(*a),
-        (None, _) => *second,
+        (Some(a), Some(b)) => Some(if b.stamp.is_before(&a.stamp) { b } else { a }),
+        (Some(a), None) => Some(a),
+        (None, _) => second,
     }
 }

@@ -3,7 +3,7 @@ ghost use Rattle.pr_log.specs.Known.{IsAddedAt, IsFirstIn, IsForgottenUpTo, IsUp
 ghost use Rattle.pr_log.specs.Latest.{IsNextLatest};
 ghost use Rattle.std.specs.BTreeMap.Range.{IsLeBy};
 ghost use Rattle.std.specs.Ordering.{nat_cmp};
-ghost use Rattle.std.specs.Prelude.{◌≡◌, ◌≤◌, ◌<◌, ◌+◌, ℕ, [], IfNone, IfSome, IsSome, IsTrue, OnErr, OnOk, None, is_some};
+ghost use Rattle.std.specs.Prelude.{◌≡◌, ◌≤◌, ◌<◌, ◌+◌, ℕ, [], IfNone, IfSome, IsSome, IsTrue, OnErr, OnOk, None, is_some, option_copied};
 ghost use Rattle.pr_stamps.specs.Point.{IsStamp};
 
 use crate::latest::{Latest, first_above};
@@ -82,14 +82,14 @@ impl Writes {
     }
 
     // The first write above the clock, in logarithmic time, and past the last clock in constant time.
-    pub fn first_above(&self, clock: u64) -> Option<WriteRec>
-        ensures { IsFirstIn self.now clock result }
+    pub fn first_above(&self, clock: u64) -> Option<&WriteRec>
+        ensures { IsFirstIn self.now clock (option_copied result) }
     {
         if self.last <= clock {
             return None;
         }
         match first_above(&self.by_clock, clock) {
-            Some((_, write)) => Some(*write),
+            Some((_, write)) => Some(write),
             None => None,
         }
     }

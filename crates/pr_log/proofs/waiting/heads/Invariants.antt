@@ -1,4 +1,4 @@
-use Rattle.std.proofs.Common.{◌≡◌, ℕ, ◌<◌, ◌+◌}
+use Rattle.std.proofs.Common.{◌≡◌, ℕ, ◌<◌, ◌+◌, length}
 use Rattle.pr_vectors.specs.Vector.{clock_of}
 use Rattle.pr_log.specs.Known.{IsFirstAbove}
 use Rattle.pr_log.specs.Waiting.{head_of}
@@ -6,6 +6,7 @@ use Rattle.pr_log.proofs.waiting.heads.Given as goal
 
 abbrev pub invariant-loop-n : goal.invariant-loop-n
 invariant-loop-n g l = record {
+  len : length l.heads ≡ 32;
   each : (k : ℕ) → k < l.n → IsFirstAbove l.index k (clock_of l.pos k) (head_of l.heads k);
   steps : l.steps ≡ l.fn.steps + l.n;
 }
