@@ -1,3 +1,4 @@
 pub mod Placed
 pub mod FromLast
 pub mod Rows
+pub mod Listed

@@ -5,7 +5,6 @@ use Rattle.std.specs.List.Sorted.{IsStrictlySortedBy}
 use Rattle.std.specs.declared.cmp.Ordering.TheVariants.{Less}
 use Rattle.std.proofs.lemmas.List.Kept.{AllPairs-cons}
 use Rattle.std.proofs.lemmas.List.Elements.{All-from_recursion}
-use Rattle.std.specs.Map.Calls.{RetainsPairs}
 use Rattle.std.specs.Map.{lookup, keys_of}
 use Rattle.std.specs.List.{slice_get}
 use Rattle.std.specs.Option.{option_map, unwrap_or}
@@ -19,10 +18,10 @@ use Rattle.std.proofs.lemmas.Slice.Eq.{bytes_eq-Decides}
 use Rattle.pr_names.specs.Order.{name_lt}
 use Rattle.pr_names.proofs.Places.{lt_cmp}
 use Rattle.pr_stamps.specs.declared.mark.Mark.{Mark}
-use Rattle.pr_vectors.specs.Vector.{join_of, is_covered}
+use Rattle.pr_vectors.specs.Vector.{is_covered}
 use Rattle.pr_stamps.specs.declared.newest.Newest.{Newest}
-use Rattle.pr_marks.specs.Row.{Kept, above_floor, with_mark}
-use Rattle.pr_marks.specs.Table.{Table, IsForgotten, IsRaised, IsMarked, marks_in, raised_to, row_of}
+use Rattle.pr_marks.specs.Row.{Kept, with_mark}
+use Rattle.pr_marks.specs.Table.{Table, IsRaised, IsMarked, marks_in, raised_to, row_of}
 
 same_lookup : {K X : Type 0} (f g : K → Bool) → ((k : K) → f k ≡ g k) → (es : List (K × X)) → lookup f es ≡ lookup g es
 same_lookup f g same [] = refl
@@ -59,11 +58,11 @@ row_marks found old fresh row to same new at = by found at ∙ ap marks_in same
     by None at = ap (λ (k : Kept). k.marks) (at ∙ new)
     by (Some k) at = ap (λ (r : Kept). r.marks) at
 
-newest_cond : (b : Bool) (row : Kept) (r : Option Kept) → option_map (λ (k : Kept). k.newest) (cond b (Some row) r) ≡ cond b (Some row.newest) (option_map (λ (k : Kept). k.newest) r)
+pub newest_cond : (b : Bool) (row : Kept) (r : Option Kept) → option_map (λ (k : Kept). k.newest) (cond b (Some row) r) ≡ cond b (Some row.newest) (option_map (λ (k : Kept). k.newest) r)
 newest_cond true row r = refl
 newest_cond false row r = refl
 
-marks_cond : (b : Bool) (row : Kept) (r : Option Kept) → marks_in (cond b (Some row) r) ≡ cond b row.marks (marks_in r)
+pub marks_cond : (b : Bool) (row : Kept) (r : Option Kept) → marks_in (cond b (Some row) r) ≡ cond b row.marks (marks_in r)
 marks_cond true row r = refl
 marks_cond false row r = refl
 
@@ -84,44 +83,6 @@ is_marked a b name mark gone row first old to floor rows was is newest marks kep
   floor = floor;
   newest = λ o. ap (option_map (λ (k : Kept). k.newest)) (rows o) ∙ newest_cond (bytes_eq name o) row (row_of a o) ∙ ap (λ n. cond (bytes_eq name o) (Some n) (option_map (λ (k : Kept). k.newest) (row_of a o))) (kept ∙ newest ∙ ap (λ r. raised_to (option_map (λ (k : Kept). k.newest) r) to) was ∙ ap (raised_to (option_map (λ (k : Kept). k.newest) (row_of a name))) is);
   marks = λ o. ap marks_in (rows o) ∙ marks_cond (bytes_eq name o) row (row_of a o) ∙ ap (λ m. cond (bytes_eq name o) m (marks_in (row_of a o))) (added ∙ ap (λ m. cond (is_covered a.floor mark.stamp) m (with_mark m mark)) (marks ∙ ap marks_in was));
-}
-
--- ---- forgetting
-
-abbrev pub forgot : List ℕ → Kept → Kept
-forgot floor k = record { newest = k.newest; marks = above_floor floor k.marks }
-
-abbrev pub forgot_all : List ℕ → List (List ℕ × Kept) → List (List ℕ × Kept)
-forgot_all floor es = map (λ (e : List ℕ × Kept). (e.0, forgot floor e.1)) es
-
--- each row was kept, and forgot what the floor covers
-pub retained : {F : Type 0} (T : F → List ℕ → Kept → Bool → Kept → F → Type 0) (f : F) (floor : List ℕ) → ((k : List ℕ) (v : Kept) (b : Bool) (w : Kept) (g : F) → T f k v b w g → (b ≡ true) × ((w ≡ forgot floor v) × (g ≡ f))) → (es ks : List (List ℕ × Kept)) → RetainsPairs T f es ks → ks ≡ forgot_all floor es
-retained T f floor says [] ks h = h
-retained T f floor says (e ∷ es) ks (b, w, g, rest, call, more, is) =
-    let said : (b ≡ true) × ((w ≡ forgot floor e.1) × (g ≡ f)) = says e.0 e.1 b w g call in
-    is ∙ ap (λ x. cond x ((e.0, w) ∷ rest) rest) said.0 ∙ ap (λ x. (e.0, x) ∷ rest) said.1.0 ∙ ap (λ x. (e.0, forgot floor e.1) ∷ x) (retained T f floor says es rest (subst (λ u. RetainsPairs T u es rest) said.1.1 more))
-
-forgot_cond : (floor : List ℕ) (b : Bool) (k : Kept) (r s : Option Kept) → r ≡ option_map (forgot floor) s → cond b (Some (forgot floor k)) r ≡ option_map (forgot floor) (cond b (Some k) s)
-forgot_cond floor true k r s is = refl
-forgot_cond floor false k r s is = is
-
-row_forgot : (floor o : List ℕ) (es : List (List ℕ × Kept)) → lookup (bytes_eq o) (forgot_all floor es) ≡ option_map (forgot floor) (lookup (bytes_eq o) es)
-row_forgot floor o [] = refl
-row_forgot floor o (e ∷ es) = forgot_cond floor (bytes_eq o e.0) e.1 _ _ (row_forgot floor o es)
-
-newest_forgot : (floor : List ℕ) (r : Option Kept) → option_map (λ (k : Kept). k.newest) (option_map (forgot floor) r) ≡ option_map (λ (k : Kept). k.newest) r
-newest_forgot floor None = refl
-newest_forgot floor (Some k) = refl
-
-marks_forgot : (floor : List ℕ) (r : Option Kept) → marks_in (option_map (forgot floor) r) ≡ above_floor floor (marks_in r)
-marks_forgot floor None = refl
-marks_forgot floor (Some k) = refl
-
-pub is_forgotten : (a b : Table) (floor : List ℕ) → b.floor ≡ join_of a.floor floor → b.rows ≡ forgot_all floor a.rows → IsForgotten a b floor
-is_forgotten a b floor is rows = record {
-  floor = is;
-  newest = λ o. ap (λ es. option_map (λ (k : Kept). k.newest) (lookup (bytes_eq o) es)) rows ∙ ap (option_map (λ (k : Kept). k.newest)) (row_forgot floor o a.rows) ∙ newest_forgot floor (row_of a o);
-  marks = λ o. ap (λ es. marks_in (lookup (bytes_eq o) es)) rows ∙ ap marks_in (row_forgot floor o a.rows) ∙ marks_forgot floor (row_of a o);
 }
 
 -- ---- the next name

@@ -1,3 +1,4 @@
 pub mod Row
 pub mod Pairs
 pub mod Table
+pub mod Listed

@@ -2,6 +2,7 @@
 #![tactic(auto)]
 
 mod conflicts;
+mod marked;
 mod marks;
 mod row;
 #[cfg(test)]

@@ -8,7 +8,7 @@ ghost use Rattle.std.specs.Prelude.{◌≡◌, [], true, false, None, Some, IfOk
 ghost use Rattle.std.specs.BTreeMap.{keys};
 
 use crate::row::Row;
-use crate::{Newest, conflicts};
+use crate::{Newest, conflicts, marked};
 use pr_names::Name;
 use pr_stamps::{Mark, NoMemory, Seq, Stamp};
 use pr_vectors::Vector;
@@ -23,16 +23,21 @@ use std::ops::Bound;
 pub struct Marks {
     alloc: Global,
     rows: BTreeMap<Name, Row>,
+    // The names that have marks.
+    marked: Vec<Name>,
     floor: Vector,
     spent: bool,
 }
 
 impl Model for Marks {
+    ghost use Rattle.pr_marks.specs.Listed.{AreListed};
     ghost use Rattle.pr_marks.specs.Table.{Table};
 
     ghost Value = { Table };
 
     ghost view = { λ m. record { rows = m.rows.entries; floor = m.floor; spent = m.spent } };
+
+    ghost invariant = { λ m. AreListed m.marked.items m.rows.entries };
 }
 
 impl Marks {
@@ -43,6 +48,7 @@ impl Marks {
         Marks {
             alloc,
             rows: BTreeMap::new(alloc),
+            marked: Vec::new(alloc),
             floor: Vector::zero(),
             spent: false,
         }
@@ -66,7 +72,7 @@ impl Marks {
             .entry(*name)?
             .or_insert(Row::new(self.alloc, &newest));
         row.raise(&newest);
-        row.note(&self.floor, mark)?;
+        marked::note(row, &mut self.marked, &self.floor, name, mark)?;
         self.spent = false;
         Ok(())
     }
@@ -91,15 +97,13 @@ impl Marks {
         Ok(())
     }
 
-    /// Raises the floor, and forgets the marks that it covers, in time linear in the names and their marks.
+    /// Raises the floor, and forgets the marks that it covers. It takes time logarithmic in the names and linear in the
+    /// marks, for each name that has marks, and no memory.
     pub fn forget(&mut self, floor: &Vector)
         ensures forgotten { IsForgotten self.old self.new floor.now }
         ensures spent { self.new.spent ≡ self.old.spent }
     {
-        self.rows.retain(|_, row| {
-            row.forget(floor);
-            true
-        });
+        marked::forget(&mut self.rows, &mut self.marked, floor);
         self.floor = self.floor.join(floor);
     }
 
@@ -152,6 +156,12 @@ impl Marks {
         ensures { IfOk result (λ pairs. pairs ≡ pairs_of (marks_of self.now name.now)) }
     {
         conflicts::pairs(self.alloc, self.marks(name))
+    }
+
+    // How many names are listed as having marks.
+    #[cfg(test)]
+    pub fn listed(&self) -> usize {
+        self.marked.len()
     }
 }
 

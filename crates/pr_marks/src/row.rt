@@ -1,10 +1,9 @@
 // What is kept of a name.
 ghost use Rattle.pr_marks.specs.Row.{Rises, above_floor, with_mark};
-ghost use Rattle.pr_vectors.specs.Vector.{is_covered};
 ghost use Rattle.pr_stamps.specs.Marks.{later};
 ghost use Rattle.pr_stamps.specs.Point.{is_before};
 ghost use Rattle.pr_stamps.specs.declared.mark.Mark.{Mark};
-ghost use Rattle.std.specs.Prelude.{◌≡◌, ◌≤◌, ◌<◌, ℕ, [], false, length, slice_index_or, IsTrue, OnErr, OnOk, cond};
+ghost use Rattle.std.specs.Prelude.{◌≡◌, ◌==◌, ◌≤◌, ◌<◌, ℕ, [], false, length, not, slice_index_or, IsTrue, OnErr, OnOk};
 
 use crate::Newest;
 use pr_stamps::{Mark, NoMemory, Stamp};
@@ -52,6 +51,12 @@ impl Row {
         self.marks.as_slice()
     }
 
+    pub fn has_marks(&self) -> bool
+        ensures { result ≡ not (length self.now.marks == 0) }
+    {
+        !self.marks.is_empty()
+    }
+
     // The later of the two is the newest; of equal stamps the first.
     pub fn raise(&mut self, newest: &Newest)
         ensures newest { self.new.newest ≡ later self.old.newest newest.now }
@@ -60,17 +65,6 @@ impl Row {
         if self.newest.stamp.is_before(&newest.stamp) {
             self.newest = *newest;
         }
-    }
-
-    // Keeps the mark, where the floor does not cover it.
-    pub fn note(&mut self, floor: &Vector, mark: &Mark) -> Result<(), NoMemory>
-        ensures newest { self.new.newest ≡ self.old.newest }
-        ensures marks { OnOk result (self.new.marks ≡ cond (is_covered floor.now mark.now.stamp) self.old.marks (with_mark self.old.marks mark.now)) }
-    {
-        if floor.covers(&mark.stamp) {
-            return Ok(());
-        }
-        self.add(mark)
     }
 
     // Keeps the mark in its place, if no mark has its stamp.

@@ -73,3 +73,38 @@ fn newest_stamps(rt: HostRuntime) -> Result<(), Fail> {
     );
     Ok(())
 }
+
+// Adds the mark to each of these names, and tells how many names are listed then.
+fn add_to(table: &mut Marks, names: &[&[u8]], mark: &Mark) -> Option<usize> {
+    for name in names {
+        let name = Name::read(name).ok()?;
+        table.add(&name, mark, false).ok()?;
+    }
+    Some(table.listed())
+}
+
+// The same behind a floor up to this stamp.
+fn forget_up_to(table: &mut Marks, stamp: &Stamp) -> usize {
+    let mut floor = Vector::zero();
+    floor.raise(stamp);
+    table.forget(&floor);
+    table.listed()
+}
+
+fn are_listed(table: &mut Marks) -> Option<bool> {
+    let first = mark((1, 0), None)?;
+    let next = mark((2, 0), None)?;
+    let last = mark((3, 0), None)?;
+    let all = add_to(table, &[b"a", b"b", b"c"], &first)?;
+    let again = add_to(table, &[b"b"], &next)?;
+    let one = forget_up_to(table, &first.stamp);
+    let none = forget_up_to(table, &next.stamp);
+    let more = add_to(table, &[b"a"], &last)?;
+    Some([all, again, one, none, more] == [3, 3, 1, 0, 1])
+}
+
+#[test]
+fn names_are_listed_while_they_have_marks(rt: HostRuntime) {
+    let mut table = Marks::new(rt.alloc());
+    assert!(rt; are_listed(&mut table).unwrap_or(false));
+}

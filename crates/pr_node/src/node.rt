@@ -237,7 +237,8 @@ impl Node {
     }
 
     /// Truncates the log up to the node's vector, which is answered, and forgets the marks that it covers. It takes
-    /// time linear in what is forgotten and in the known names, and no memory but for the entry.
+    /// time linear in what is forgotten and in the marks that stay, with one look-up for each name that had marks, and
+    /// no memory but for the entry.
     pub fn cut(&mut self, caller: u32) -> Result<Vector, NodeFault>
         ensures ok { IfOk result (λ at. AddsAlone (means self.old) (means self.new) caller (λ e. e.event ≡ Cut at)) }
         ensures fault { IfErr result (IsFault (means self.old) (means self.new) (IsTimeWorn (means self.old) 0)) }

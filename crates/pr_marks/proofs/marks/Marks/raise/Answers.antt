@@ -2,6 +2,7 @@ use Rattle.std.proofs.Common.{Option, rules, refl, sym, ◌∙◌}
 use Rattle.std.specs.Map.{lookup}
 use Rattle.std.specs.Str.{bytes_eq}
 use Rattle.pr_marks.specs.Row.{Kept}
+use Rattle.pr_marks.proofs.Listed.{listed_more, listed_row}
 use Rattle.pr_marks.proofs.Rows.{is_raised, raised_row, row_at, row_marks, written}
 use Rattle.pr_marks.proofs.marks.Marks.raise.Goals as goal
 
@@ -14,3 +15,13 @@ returns-clause-ok c =
     refl
     (raised_row _ old _ _ _ _ was c.new.ensures c.or_insert-row.ensures.value c.raise.ensures.newest)
     (c.raise.ensures.marks ∙ row_marks _ old _ _ _ was c.new.ensures c.or_insert-row.ensures.value))
+
+pub invariant_of-self-2 : goal.invariant_of-self-2
+invariant_of-self-2 c =
+    let old : Option Kept = lookup (bytes_eq c.args.name.now) c.self.inside.rows.entries in
+    let was = c.in_ok-self-inside.ensures.value ∙ sym (row_at c.args.name.now c.self.inside.rows.entries) in
+    listed_more c.args.name.now c.self.inside.rows.entries _ c.raise.new.self c.self.inside.marked.items c.self.inside.marked.items
+    (written c.args.name.now c.self.inside.rows.entries _ c.raise.new.self (λ q. search (rules, (c.in_ok-self-inside.ensures.update.0 c.raise.new.self).0 q)))
+    c.self.invariant
+    (listed_row c.args.name.now c.self.inside.rows.entries c.self.inside.marked.items c.raise.new.self.marks c.self.invariant (c.raise.ensures.marks ∙ row_marks _ old _ _ _ was c.new.ensures c.or_insert-row.ensures.value))
+    (λ o h. h)
