@@ -1,0 +1,91 @@
+#!/usr/bin/env python3
+"""Measures single calls of a node, by the program practi_bench.
+
+    bench/calls.py PROGRAM [--tries N] [--part K] [--limit S] [KIND ..]
+
+Of pair, coded, filtered and bodies a call is a round: pair is a write, a turn, an accept and a read, coded the same over
+bytes, filtered one of many writes with two turns behind each ten, and bodies a write and two turns. Of cut it is a write
+and a cut. Each kind is run at its number of calls, at twice that, with twice as many names, and, where nodes tell the
+names beforehand, with 31 writers in place of one. From each the time of a run with no calls is taken off, which is what
+it takes to begin.
+
+It writes for each kind the number of calls, the microseconds of processor time for a call, the least of N tries, and over
+that the time for a call of each other run: 1.0 is no growth. With --part K the number of calls is divided by K. No figure
+is a test; the exit status is 1 where a run ends as it must not.
+"""
+
+import argparse
+import os
+import sys
+import tempfile
+
+sys.dont_write_bytecode = True
+
+from measure import best
+
+# The number of calls of each kind, and of names. As many turns send a write as there are names.
+ROUNDS = {
+    "pair": (20_000, 1_000),
+    "coded": (20_000, 1_000),
+    "filtered": (50_000, 1_000),
+    "bodies": (20_000, 10_000),
+}
+CALLS = {
+    "write": (50_000, 1_000),
+    "turn": (20_000, 40_000),
+    "idle": (50_000, 1_000),
+    "accept": (50_000, 1_000),
+    "read": (50_000, 1_000),
+    "attach": (50_000, 1_000),
+    "checkpoint": (20_000, 1_000),
+    "cut": (5_000, 1_000),
+    "intervals": (2_000, 100),
+}
+KINDS = ROUNDS | CALLS
+MOST_WRITERS = 31
+
+
+def spent(kind, calls, names, writers, args):
+    words = [args.program, kind, str(calls), str(names), str(writers)]
+    with tempfile.TemporaryFile() as out:
+        return best(words, os.devnull, out, 0, args).seconds
+
+
+def each(kind, calls, names, writers, args):
+    """The microseconds of a call."""
+    seconds = spent(kind, calls, names, writers, args) - spent(kind, 0, names, writers, args)
+    return max(seconds / calls * 1e6, 0.001)
+
+
+def measured(kind, args):
+    calls, names = KINDS[kind]
+    calls = max(calls // args.part, 1)
+    once = each(kind, calls, names, 1, args)
+    longer = each(kind, calls * 2, names, 1, args) / once
+    named = each(kind, calls, names * 2, 1, args) / once
+    spread = f"{each(kind, calls, names, MOST_WRITERS, args) / once:7.2f}" if kind in CALLS else ""
+    print(f"{kind:12} {calls:7} {once:9.2f} {longer:7.2f} {named:7.2f} {spread:>7}".rstrip(), flush=True)
+
+
+def main():
+    parser = argparse.ArgumentParser(description=__doc__, formatter_class=argparse.RawDescriptionHelpFormatter)
+    parser.add_argument("program")
+    parser.add_argument("--tries", type=int, default=3)
+    parser.add_argument("--part", type=int, default=1)
+    parser.add_argument("--limit", type=float, default=120)
+    parser.add_argument("kinds", nargs="*", metavar="KIND", help=", ".join(KINDS))
+    args = parser.parse_intermixed_args()
+
+    status = 0
+    print(f"{'kind':12} {'calls':>7} {'us a call':>9} {'calls':>7} {'names':>7} {'writers':>7}")
+    for kind in args.kinds or KINDS:
+        try:
+            measured(kind, args)
+        except (TimeoutError, RuntimeError) as error:
+            print(f"{kind:12} {error}", flush=True)
+            status = 1
+    return status
+
+
+if __name__ == "__main__":
+    sys.exit(main())
