@@ -63,8 +63,8 @@ def measured(kind, args):
     once = each(kind, calls, names, 1, args)
     longer = each(kind, calls * 2, names, 1, args) / once
     named = each(kind, calls, names * 2, 1, args) / once
-    spread = f"{each(kind, calls, names, MOST_WRITERS, args) / once:7.2f}" if kind in CALLS else ""
-    print(f"{kind:12} {calls:7} {once:9.2f} {longer:7.2f} {named:7.2f} {spread:>7}".rstrip(), flush=True)
+    spread = f"{each(kind, calls, names, MOST_WRITERS, args) / once:.2f}" if kind in CALLS else ""
+    print(f"{kind:12} {calls:7} {once:9.2f} {longer:8.2f} {named:8.2f} {spread:>10}".rstrip(), flush=True)
 
 
 def main():
@@ -77,7 +77,7 @@ def main():
     args = parser.parse_intermixed_args()
 
     status = 0
-    print(f"{'kind':12} {'calls':>7} {'us a call':>9} {'calls':>7} {'names':>7} {'writers':>7}")
+    print(f"{'kind':12} {'calls':>7} {'us a call':>9} {'calls x2':>8} {'names x2':>8} {'31 writers':>10}")
     for kind in args.kinds or KINDS:
         try:
             measured(kind, args)

@@ -30,7 +30,13 @@ impl Ask {
     }
 
     fn new(work: Work, size: u32, names: u32, writers: u32) -> Option<Ask> {
-        if names == 0 || writers == 0 || writers > 31 {
+        if names == 0 {
+            return None;
+        }
+        if writers == 0 {
+            return None;
+        }
+        if writers > 31 {
             return None;
         }
         Some(Ask {

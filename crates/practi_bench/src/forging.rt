@@ -17,7 +17,10 @@ pub fn precise(told: &Told) -> Result<Msg, Failed>
     ensures { IfOk result IsMessage }
 {
     let Told { from, to, write } = told;
-    if !rises(from, to) || !is_write(from, to, write) {
+    if !rises(from, to) {
+        return Err(Failed);
+    }
+    if !is_write(from, to, write) {
         return Err(Failed);
     }
     let kind = Kind::Precise {
