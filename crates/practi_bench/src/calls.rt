@@ -2,65 +2,38 @@
 
 use crate::ask::Ask;
 use crate::failed::Failed;
-use crate::known::Known;
-use crate::naming::name;
-use crate::starting::{CALLER, CLIENT};
-use pr_node::Node;
-use pr_vectors::Vector;
+use crate::known::{Knowing, Known};
+use crate::work::Call;
 use std::alloc::Global;
 
-pub fn writes(alloc: Global, ask: &Ask) -> Result<usize, Failed> {
-    let mut known = Known::new(alloc, ask)?;
+/// Makes so many calls of a node that knows the names, and says how many entries were made with those that told it.
+pub fn calls(alloc: Global, call: Call, ask: &Ask) -> Result<usize, Failed> {
+    let mut known = Known::new(alloc, knowing(call), ask)?;
+    repeat(&mut known, call, ask)
+}
+
+// What the node is told beforehand.
+fn knowing(call: Call) -> Knowing {
+    match call {
+        Call::Write | Call::Accept | Call::Cut => Knowing::Writes,
+        Call::Read => Knowing::Bodies,
+        Call::Intervals => Knowing::Hints,
+    }
+}
+
+fn repeat(known: &mut Known, call: Call, ask: &Ask) -> Result<usize, Failed> {
     for number in 0..ask.size {
-        write(&mut known.node, number % ask.names)?;
+        make(known, call, number % ask.names)?;
     }
     Ok(known.entries())
 }
 
-fn write(node: &mut Node, number: u32) -> Result<(), Failed> {
-    let name = name(b'n', number)?;
-    let _ = node.write(CALLER, CLIENT, &name, b"0123456789", &Vector::zero())?;
-    Ok(())
-}
-
-pub fn accepts(alloc: Global, ask: &Ask) -> Result<usize, Failed> {
-    let mut known = Known::new(alloc, ask)?;
-    for _ in 0..ask.size {
-        known.tell()?;
+fn make(known: &mut Known, call: Call, name_number: u32) -> Result<(), Failed> {
+    match call {
+        Call::Write => known.write(name_number),
+        Call::Accept => known.tell(Knowing::Writes),
+        Call::Read => known.read(name_number),
+        Call::Cut => known.cut(name_number),
+        Call::Intervals => known.tell(Knowing::Hints),
     }
-    Ok(known.entries())
-}
-
-/// Accepts of imprecise invalidations, where as many intervals are dark as there are names.
-pub fn intervals(alloc: Global, ask: &Ask) -> Result<usize, Failed> {
-    let mut known = Known::dark(alloc, ask)?;
-    for _ in 0..ask.size {
-        known.hint()?;
-    }
-    Ok(known.entries())
-}
-
-/// Reads that are answered a value.
-pub fn reads(alloc: Global, ask: &Ask) -> Result<usize, Failed> {
-    let mut known = Known::with_bodies(alloc, ask)?;
-    for number in 0..ask.size {
-        read(&mut known.node, number % ask.names)?;
-    }
-    Ok(known.entries())
-}
-
-fn read(node: &mut Node, number: u32) -> Result<(), Failed> {
-    let name = name(b'n', number)?;
-    let _ = node.read(CALLER, CLIENT, &name, &Vector::zero())?;
-    Ok(())
-}
-
-/// Cuts, with a write before each.
-pub fn cuts(alloc: Global, ask: &Ask) -> Result<usize, Failed> {
-    let mut known = Known::new(alloc, ask)?;
-    for number in 0..ask.size {
-        write(&mut known.node, number % ask.names)?;
-        let _ = known.node.cut(CALLER)?;
-    }
-    Ok(known.entries())
 }

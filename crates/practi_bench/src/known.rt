@@ -3,73 +3,93 @@
 use crate::ask::Ask;
 use crate::failed::Failed;
 use crate::forging::{body, imprecise, precise};
-use crate::starting::{CALLER, node};
-use crate::writers::Writers;
+use crate::naming::name;
+use crate::starting::{CALLER, CLIENT, node};
+use crate::writers::{Told, Writers};
 use pr_node::Node;
+use pr_vectors::Vector;
 use std::alloc::Global;
+
+/// What a node is told of a write: its precise invalidation; its body too; or no more than that it may be.
+#[derive(Clone, Copy)]
+pub enum Knowing {
+    Writes,
+    Bodies,
+    Hints,
+}
 
 /// A node, and the writers that it hears of.
 #[derive(Drop)]
 pub struct Known {
     alloc: Global,
-    pub node: Node,
+    node: Node,
     writers: Writers,
 }
 
 impl Known {
-    /// A node that was told one write to each name.
-    pub fn new(alloc: Global, ask: &Ask) -> Result<Known, Failed> {
-        let mut known = Known::unknown(alloc, ask)?;
-        for _ in 0..ask.names {
-            known.tell()?;
-        }
-        Ok(known)
-    }
-
-    /// A node that has a body of each name too.
-    pub fn with_bodies(alloc: Global, ask: &Ask) -> Result<Known, Failed> {
-        let mut known = Known::unknown(alloc, ask)?;
-        for _ in 0..ask.names {
-            known.tell_with_body()?;
-        }
-        Ok(known)
-    }
-
-    /// A node to which each name is dark.
-    pub fn dark(alloc: Global, ask: &Ask) -> Result<Known, Failed> {
-        let mut known = Known::unknown(alloc, ask)?;
-        for _ in 0..ask.names {
-            known.hint()?;
-        }
-        Ok(known)
-    }
-
-    fn unknown(alloc: Global, ask: &Ask) -> Result<Known, Failed> {
-        Ok(Known {
+    /// A node that was told so of one write to each name.
+    pub fn new(alloc: Global, knowing: Knowing, ask: &Ask) -> Result<Known, Failed> {
+        let mut known = Known {
             alloc,
             node: node(alloc, 0)?,
             writers: Writers::new(ask.writers, ask.names),
-        })
+        };
+        known.tell_of(ask.names, knowing)?;
+        Ok(known)
+    }
+
+    fn tell_of(&mut self, count: u32, knowing: Knowing) -> Result<(), Failed> {
+        for _ in 0..count {
+            self.tell(knowing)?;
+        }
+        Ok(())
     }
 
     /// Tells the node of the next write.
-    pub fn tell(&mut self) -> Result<(), Failed> {
+    pub fn tell(&mut self, knowing: Knowing) -> Result<(), Failed> {
         let told = self.writers.write()?;
-        let _ = self.node.accept(CALLER, precise(&told)?)?;
+        match knowing {
+            Knowing::Writes => self.accept_write(&told),
+            Knowing::Bodies => self.accept_body(&told),
+            Knowing::Hints => self.accept_hint(&told),
+        }
+    }
+
+    fn accept_write(&mut self, told: &Told) -> Result<(), Failed> {
+        let _ = self.node.accept(CALLER, precise(told)?)?;
         Ok(())
     }
 
-    fn tell_with_body(&mut self) -> Result<(), Failed> {
-        let told = self.writers.write()?;
-        let _ = self.node.accept(CALLER, precise(&told)?)?;
-        let _ = self.node.accept(CALLER, body(self.alloc, &told)?)?;
+    fn accept_body(&mut self, told: &Told) -> Result<(), Failed> {
+        self.accept_write(told)?;
+        let _ = self.node.accept(CALLER, body(self.alloc, told)?)?;
         Ok(())
     }
 
-    /// Tells the node that there may be a write to the name of the next one.
-    pub fn hint(&mut self) -> Result<(), Failed> {
-        let told = self.writers.write()?;
-        let _ = self.node.accept(CALLER, imprecise(self.alloc, &told)?)?;
+    fn accept_hint(&mut self, told: &Told) -> Result<(), Failed> {
+        let _ = self.node.accept(CALLER, imprecise(self.alloc, told)?)?;
+        Ok(())
+    }
+
+    /// A write of its own.
+    pub fn write(&mut self, name_number: u32) -> Result<(), Failed> {
+        let name = name(b'n', name_number)?;
+        let _ = self
+            .node
+            .write(CALLER, CLIENT, &name, b"0123456789", &Vector::zero())?;
+        Ok(())
+    }
+
+    pub fn read(&mut self, name_number: u32) -> Result<(), Failed> {
+        let name = name(b'n', name_number)?;
+        let _ = self.node.read(CALLER, CLIENT, &name, &Vector::zero())?;
+        Ok(())
+    }
+
+    /// A write and a cut.
+    pub fn cut(&mut self, name_number: u32) -> Result<(), Failed> {
+        self.write(name_number)?;
+        let _ = self.node.cut(CALLER)?;
         Ok(())
     }
 

@@ -12,11 +12,12 @@ use pr_sets::NameSet;
 use pr_vectors::Vector;
 use std::alloc::Global;
 
-/// A node that writes, and one that takes what a stream from the first sends.
+/// A node that writes, one that takes what a stream from the first sends, and bytes between them.
 #[derive(Drop)]
 pub struct Pair {
     source: Source,
     destination: Node,
+    coding: Coding,
 }
 
 impl Pair {
@@ -27,6 +28,7 @@ impl Pair {
         Ok(Pair {
             source,
             destination,
+            coding: Coding::new(alloc),
         })
     }
 
@@ -43,12 +45,19 @@ impl Pair {
         }
     }
 
-    /// The same over bytes.
-    pub fn pass_coded(&mut self, coding: &mut Coding) -> Result<(), Failed> {
+    /// The same, over bytes.
+    pub fn pass_coded(&mut self) -> Result<(), Failed> {
         match self.source.turn()? {
-            Some(msg) => self.take(coding.carry(&msg)?),
+            Some(msg) => self.take_coded(&msg),
             None => Ok(()),
         }
+    }
+
+    fn take_coded(&mut self, msg: &Msg) -> Result<(), Failed>
+        requires { IsMessage msg.now }
+    {
+        let msg = self.coding.carry(msg)?;
+        self.take(msg)
     }
 
     fn take(&mut self, msg: Msg) -> Result<(), Failed>
@@ -83,8 +92,7 @@ fn source(
     bodies: bool,
     destination: &mut Node,
 ) -> Result<Source, Failed> {
-    let node = node(alloc, 0)?;
     let mut session = session(alloc, names, bodies)?;
     let _ = destination.attach(CALLER, &mut session)?;
-    Ok(Source::new(alloc, node, session))
+    Ok(Source::new(alloc, node(alloc, 0)?, session))
 }

@@ -2,59 +2,63 @@
 ghost use Rattle.std.specs.Prelude.{◌≤◌};
 
 use crate::ask::Ask;
-use crate::coding::Coding;
 use crate::failed::Failed;
 use crate::naming::{name, set};
 use crate::pair::Pair;
+use crate::work::Round;
 use std::alloc::Global;
 
-/// So many rounds of a write, a turn, its accept and a read of what was written.
-pub fn pairs(alloc: Global, ask: &Ask) -> Result<usize, Failed> {
-    let mut pair = Pair::new(alloc, set(alloc, b"*")?, false)?;
+/// Makes so many rounds of two nodes, and says how many entries were made.
+pub fn rounds(alloc: Global, round: Round, ask: &Ask) -> Result<usize, Failed> {
+    let mut pair = made_for(alloc, round)?;
+    repeat(&mut pair, round, ask)
+}
+
+fn made_for(alloc: Global, round: Round) -> Result<Pair, Failed> {
+    match round {
+        Round::Pair | Round::Coded => Pair::new(alloc, set(alloc, b"*")?, false),
+        Round::Filtered => Pair::new(alloc, set(alloc, b"h/*")?, false),
+        Round::Bodies => Pair::new(alloc, set(alloc, b"*")?, true),
+    }
+}
+
+fn repeat(pair: &mut Pair, round: Round, ask: &Ask) -> Result<usize, Failed> {
     for number in 0..ask.size {
-        pair_round(&mut pair, number % ask.names)?;
+        make(pair, round, number, ask.names)?;
     }
     Ok(pair.entries())
 }
 
-fn pair_round(pair: &mut Pair, number: u32) -> Result<(), Failed> {
-    let name = name(b'n', number)?;
+// The round of this number, over so many names.
+fn make(pair: &mut Pair, round: Round, number: u32, names: u32) -> Result<(), Failed>
+    requires { 1 ≤ names }
+{
+    match round {
+        Round::Pair => direct(pair, number % names),
+        Round::Coded => coded(pair, number % names),
+        Round::Filtered => filtered(pair, number, number % names),
+        Round::Bodies => bodies(pair, shuffled(number, names)),
+    }
+}
+
+fn direct(pair: &mut Pair, name_number: u32) -> Result<(), Failed> {
+    let name = name(b'n', name_number)?;
     pair.write(&name)?;
     pair.pass()?;
     pair.read(&name)
 }
 
-/// The same, with each message over bytes.
-pub fn coded_pairs(alloc: Global, ask: &Ask) -> Result<usize, Failed> {
-    let mut pair = Pair::new(alloc, set(alloc, b"*")?, false)?;
-    let mut coding = Coding::new(alloc);
-    for number in 0..ask.size {
-        coded_round(&mut pair, &mut coding, number % ask.names)?;
-    }
-    Ok(pair.entries())
-}
-
-fn coded_round(pair: &mut Pair, coding: &mut Coding, number: u32) -> Result<(), Failed> {
-    let name = name(b'n', number)?;
+fn coded(pair: &mut Pair, name_number: u32) -> Result<(), Failed> {
+    let name = name(b'n', name_number)?;
     pair.write(&name)?;
-    pair.pass_coded(coding)?;
+    pair.pass_coded()?;
     pair.read(&name)
 }
 
-/// So many writes of which each tenth is to a name of the stream; behind each ten of them two turns and their accepts.
-pub fn filtered(alloc: Global, ask: &Ask) -> Result<usize, Failed> {
-    let mut pair = Pair::new(alloc, set(alloc, b"h/*")?, false)?;
-    for number in 0..ask.size {
-        filtered_round(&mut pair, number, ask.names)?;
-    }
-    Ok(pair.entries())
-}
-
-fn filtered_round(pair: &mut Pair, number: u32, names: u32) -> Result<(), Failed>
-    requires { 1 ≤ names }
-{
+// Each tenth write is to a name of the stream. Behind each ten there are two turns.
+fn filtered(pair: &mut Pair, number: u32, name_number: u32) -> Result<(), Failed> {
     let letter = if number % 10 == 0 { b'h' } else { b'm' };
-    pair.write(&name(letter, number % names)?)?;
+    pair.write(&name(letter, name_number)?)?;
     if number % 10 == 9 {
         pair.pass()?;
         pair.pass()?;
@@ -62,17 +66,9 @@ fn filtered_round(pair: &mut Pair, number: u32, names: u32) -> Result<(), Failed
     Ok(())
 }
 
-/// So many writes to a stream that sends bodies, each with two turns and their accepts.
-pub fn bodies(alloc: Global, ask: &Ask) -> Result<usize, Failed> {
-    let mut pair = Pair::new(alloc, set(alloc, b"*")?, true)?;
-    for number in 0..ask.size {
-        bodies_round(&mut pair, shuffled(number, ask.names))?;
-    }
-    Ok(pair.entries())
-}
-
-fn bodies_round(pair: &mut Pair, number: u32) -> Result<(), Failed> {
-    pair.write(&name(b'n', number)?)?;
+// The second turn sends the body.
+fn bodies(pair: &mut Pair, name_number: u32) -> Result<(), Failed> {
+    pair.write(&name(b'n', name_number)?)?;
     pair.pass()?;
     pair.pass()
 }

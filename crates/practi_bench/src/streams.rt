@@ -2,55 +2,78 @@
 
 use crate::ask::Ask;
 use crate::failed::Failed;
-use crate::known::Known;
+use crate::known::{Knowing, Known};
 use crate::naming::{name, set, set_of};
 use crate::source::Source;
 use crate::starting::{CALLER, session};
+use crate::work::StreamCall;
 use pr_inval::Session;
 use pr_node::Node;
+use pr_sets::NameSet;
 use pr_vectors::Vector;
 use std::alloc::Global;
 
-/// Turns that send a write each, as long as one waits; as many wait as there are names.
-pub fn turns(alloc: Global, ask: &Ask) -> Result<usize, Failed> {
-    let node = Known::new(alloc, ask)?.into_node();
-    turns_from(alloc, ask.size, node, &Vector::zero())
+/// Makes so many calls for a stream at a node that knows the names, and says how many entries were made with those that
+/// told it.
+pub fn stream_calls(alloc: Global, call: StreamCall, ask: &Ask) -> Result<usize, Failed> {
+    let node = Known::new(alloc, Knowing::Writes, ask)?.into_node();
+    match call {
+        StreamCall::Turn => turns(alloc, ask.size, node, &Vector::zero()),
+        StreamCall::Idle => idle_turns(alloc, ask.size, node),
+        StreamCall::Attach => attaches(alloc, ask.size, node),
+        StreamCall::Checkpoint => checkpoints(alloc, ask.size, node),
+    }
 }
 
-/// Turns that have nothing to send.
-pub fn idle_turns(alloc: Global, ask: &Ask) -> Result<usize, Failed> {
-    let node = Known::new(alloc, ask)?.into_node();
+// Turns of a stream of all names that begins here.
+fn turns(alloc: Global, size: u32, node: Node, start: &Vector) -> Result<usize, Failed> {
+    let mut source = source(alloc, node, start)?;
+    repeat_turns(&mut source, size)
+}
+
+fn idle_turns(alloc: Global, size: u32, node: Node) -> Result<usize, Failed> {
     let start = node.vector();
-    turns_from(alloc, ask.size, node, &start)
+    turns(alloc, size, node, &start)
 }
 
-fn turns_from(alloc: Global, size: u32, node: Node, start: &Vector) -> Result<usize, Failed> {
+fn source(alloc: Global, node: Node, start: &Vector) -> Result<Source, Failed> {
     let mut session = session(alloc, set(alloc, b"*")?, false)?;
     session.begin(start);
-    let mut source = Source::new(alloc, node, session);
+    Ok(Source::new(alloc, node, session))
+}
+
+fn repeat_turns(source: &mut Source, size: u32) -> Result<usize, Failed> {
     for _ in 0..size {
         let _ = source.turn()?;
     }
     Ok(source.entries())
 }
 
-pub fn attaches(alloc: Global, ask: &Ask) -> Result<usize, Failed> {
-    let mut node = Known::new(alloc, ask)?.into_node();
+fn attaches(alloc: Global, size: u32, mut node: Node) -> Result<usize, Failed> {
     let mut session = session(alloc, set(alloc, b"*")?, false)?;
-    for _ in 0..ask.size {
-        let _ = node.attach(CALLER, &mut session)?;
+    repeat_attaches(&mut node, &mut session, size)
+}
+
+fn repeat_attaches(node: &mut Node, session: &mut Session, size: u32) -> Result<usize, Failed> {
+    for _ in 0..size {
+        let _ = node.attach(CALLER, session)?;
     }
     Ok(node.journal().len())
 }
 
-/// Checkpoints of one row.
-pub fn checkpoints(alloc: Global, ask: &Ask) -> Result<usize, Failed> {
-    let mut node = Known::new(alloc, ask)?.into_node();
-    let names = set_of(alloc, &name(b'n', 0)?)?;
-    let mut session = session(alloc, names, false)?;
+fn checkpoints(alloc: Global, size: u32, mut node: Node) -> Result<usize, Failed> {
+    let mut session = session(alloc, one_name(alloc)?, false)?;
     session.begin(&Vector::zero());
-    for _ in 0..ask.size {
-        checkpoint(&mut node, &mut session)?;
+    repeat_checkpoints(&mut node, &mut session, size)
+}
+
+fn one_name(alloc: Global) -> Result<NameSet, Failed> {
+    set_of(alloc, &name(b'n', 0)?)
+}
+
+fn repeat_checkpoints(node: &mut Node, session: &mut Session, size: u32) -> Result<usize, Failed> {
+    for _ in 0..size {
+        checkpoint(node, session)?;
     }
     Ok(node.journal().len())
 }
