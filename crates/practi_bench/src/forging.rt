@@ -8,6 +8,7 @@ use crate::failed::Failed;
 use crate::naming::set_of;
 use crate::writers::Told;
 use pr_inval::{Kind, Msg, WriteRec};
+use pr_names::Name;
 use pr_stamps::{Seq, Stamp};
 use pr_vectors::Vector;
 use std::alloc::Global;
@@ -49,18 +50,18 @@ pub fn imprecise(alloc: Global, told: &Told) -> Result<Msg, Failed>
     Ok(message(&write.stamp, kind))
 }
 
-/// What was written.
-pub fn body(alloc: Global, told: &Told) -> Result<Msg, Failed>
+/// The body of the write with this name and stamp.
+pub fn body(alloc: Global, name: &Name, stamp: &Stamp) -> Result<Msg, Failed>
     ensures { IfOk result IsMessage }
 {
-    let _ = told.write.name.bytes();
-    let _ = told.write.stamp.clock();
+    let _ = name.bytes();
+    let _ = stamp.clock();
     let kind = Kind::Body {
-        name: told.write.name,
-        stamp: told.write.stamp,
+        name: *name,
+        stamp: *stamp,
         bytes: Seq::copied(alloc, b"0123456789")?,
     };
-    Ok(message(&told.write.stamp, kind))
+    Ok(message(stamp, kind))
 }
 
 // A message that has the clock of the write as its time and number.

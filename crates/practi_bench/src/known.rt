@@ -2,10 +2,9 @@
 
 use crate::ask::Ask;
 use crate::failed::Failed;
-use crate::forging::{body, imprecise, precise};
 use crate::naming::name;
 use crate::starting::{CALLER, CLIENT, node};
-use crate::writers::{Told, Writers};
+use crate::writers::Writers;
 use pr_node::Node;
 use pr_vectors::Vector;
 use std::alloc::Global;
@@ -47,27 +46,29 @@ impl Known {
 
     /// Tells the node of the next write.
     pub fn tell(&mut self, knowing: Knowing) -> Result<(), Failed> {
-        let told = self.writers.write()?;
         match knowing {
-            Knowing::Writes => self.accept_write(&told),
-            Knowing::Bodies => self.accept_body(&told),
-            Knowing::Hints => self.accept_hint(&told),
+            Knowing::Writes => self.accept_write(),
+            Knowing::Bodies => self.accept_body(),
+            Knowing::Hints => self.accept_hint(),
         }
     }
 
-    fn accept_write(&mut self, told: &Told) -> Result<(), Failed> {
-        let _ = self.node.accept(CALLER, precise(told)?)?;
+    fn accept_write(&mut self) -> Result<(), Failed> {
+        let msg = self.writers.precise()?;
+        let _ = self.node.accept(CALLER, msg)?;
         Ok(())
     }
 
-    fn accept_body(&mut self, told: &Told) -> Result<(), Failed> {
-        self.accept_write(told)?;
-        let _ = self.node.accept(CALLER, body(self.alloc, told)?)?;
+    fn accept_body(&mut self) -> Result<(), Failed> {
+        self.accept_write()?;
+        let msg = self.writers.body(self.alloc)?;
+        let _ = self.node.accept(CALLER, msg)?;
         Ok(())
     }
 
-    fn accept_hint(&mut self, told: &Told) -> Result<(), Failed> {
-        let _ = self.node.accept(CALLER, imprecise(self.alloc, told)?)?;
+    fn accept_hint(&mut self) -> Result<(), Failed> {
+        let msg = self.writers.imprecise(self.alloc)?;
+        let _ = self.node.accept(CALLER, msg)?;
         Ok(())
     }
 

@@ -1,11 +1,14 @@
 // Nodes that write.
-ghost use Rattle.std.specs.Prelude.{◌≤◌};
+ghost use Rattle.pr_inval.specs.Messages.{IsMessage};
+ghost use Rattle.std.specs.Prelude.{◌≤◌, IfOk};
 
 use crate::failed::Failed;
+use crate::forging::{body, imprecise, precise};
 use crate::naming::name;
-use pr_inval::WriteRec;
+use pr_inval::{Msg, WriteRec};
 use pr_stamps::Stamp;
 use pr_vectors::Vector;
+use std::alloc::Global;
 
 /// A write, with what was written before it, and up to it.
 #[derive(Drop)]
@@ -41,8 +44,33 @@ impl Writers {
         }
     }
 
-    /// The next write.
-    pub fn write(&mut self) -> Result<Told, Failed> {
+    /// The precise invalidation of the next write.
+    pub fn precise(&mut self) -> Result<Msg, Failed>
+        ensures { IfOk result IsMessage }
+    {
+        let told = self.write()?;
+        precise(&told)
+    }
+
+    /// An imprecise invalidation in place of it.
+    pub fn imprecise(&mut self, alloc: Global) -> Result<Msg, Failed>
+        ensures { IfOk result IsMessage }
+    {
+        let told = self.write()?;
+        imprecise(alloc, &told)
+    }
+
+    /// The body of the last write.
+    pub fn body(&self, alloc: Global) -> Result<Msg, Failed>
+        ensures { IfOk result IsMessage }
+    {
+        let last = self.made.saturating_sub(1);
+        let name = name(b'n', last % self.names)?;
+        let stamp = self.stamp(last).ok_or(Failed)?;
+        body(alloc, &name, &stamp)
+    }
+
+    fn write(&mut self) -> Result<Told, Failed> {
         let write = WriteRec {
             name: name(b'n', self.made % self.names)?,
             stamp: self.stamp(self.made).ok_or(Failed)?,
