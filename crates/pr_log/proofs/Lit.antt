@@ -8,7 +8,7 @@ use Rattle.pr_names.specs.Name.{IsName}
 use Rattle.pr_names.specs.Span.{Span}
 use Rattle.pr_sets.specs.Spans.{has, IsSet, IsSetOf}
 use Rattle.pr_vectors.specs.Vector.{Between, Covers, clock_of}
-use Rattle.pr_log.specs.Sets.{is_lit_at, is_in_any, IsDarkAt}
+use Rattle.pr_log.specs.Sets.{is_lit_at, IsDarkAt}
 use Rattle.pr_log.specs.Dark.{IsDarkBetween, IsLitToo, IsRowRefined, is_lit_in, sets_of}
 use Rattle.pr_log.proofs.Clocks.{less_or}
 use Rattle.pr_log.proofs.Places.{past_end, this_or_other}
@@ -198,7 +198,7 @@ is_dark own dark from to o (n, lt, other, (c, above, within, out)) =
     let p : Point = record { clock = c; node = n } in
     (p, (omega (arith, above), within), lit_other own dark o p (not_own n own other) (omega (arith, above)) ∙ out)
 
-pub set_of_dark : {E : Type 0} (r : Result (List Span) E) (own : ℕ) (dark : List (List (ℕ × List Span))) (from to : List ℕ) (names : List (List Span)) → length to ≡ 32 → IfOk r IsSet → IfOk r (λ set. (o : List ℕ) → IsName o → has set o ≡ is_in_any names o) → ((o : List ℕ) → IsName o → IsTrue (is_in_any names o) ↔ IsDarkBelow own dark from to 32 o) → IfOk r (λ set. IsSetOf set (IsDarkBetween own dark from to))
+pub set_of_dark : {E : Type 0} (r : Result (List Span) E) (own : ℕ) (dark : List (List (ℕ × List Span))) (from to : List ℕ) (names : List ℕ → Bool) → length to ≡ 32 → IfOk r IsSet → IfOk r (λ set. (o : List ℕ) → IsName o → has set o ≡ names o) → ((o : List ℕ) → IsName o → IsTrue (names o) ↔ IsDarkBelow own dark from to 32 o) → IfOk r (λ set. IsSetOf set (IsDarkBetween own dark from to))
 set_of_dark (Ok set) own dark from to names len one same each = record {
   one_list = one;
   has_them = λ o name is. same o name ∙ (each o name).1 (dark_is own dark from to o len is);

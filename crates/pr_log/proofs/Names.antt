@@ -1,8 +1,8 @@
 -- Sets of names that are made here, and sets of which the union is taken.
-use Rattle.std.proofs.Common.{Result, Ok, Err, ◌≡◌, ℕ, ◌<◌, List, [], ◌∷◌, ◌++◌, Option, None, Bool, true, false, refl, sym, ◌∙◌, ap, subst, arith, inl, inr, ◌||◌}
+use Rattle.std.proofs.Common.{Result, Ok, Err, ◌≡◌, ℕ, ◌<◌, List, [], ◌∷◌, ◌++◌, Option, None, Some, Bool, true, false, refl, sym, ◌∙◌, ap, subst, arith, inl, inr, ◌||◌, Ordering, Less, Equal, Greater}
 use Rattle.std.specs.Prelude.{◌⊎◌, IsTrue}
 use Rattle.std.specs.Option.{is_some}
-use Rattle.std.specs.Result.{IfOk}
+use Rattle.std.specs.Prelude.{IfSome, OnOk}
 use Rattle.std.specs.Str.{bytes_eq}
 use Rattle.std.proofs.lemmas.Slice.Eq.{bytes_eq-Decides}
 use Rattle.std.proofs.lemmas.List.Folds.{list_any-append}
@@ -15,7 +15,12 @@ use Rattle.pr_names.proofs.Place.{place}
 use Rattle.pr_names.proofs.Places.{holds_tells, places_lt, not_under_places, under_places, same_place, span_of}
 use Rattle.pr_names.proofs.Above.{one_some}
 use Rattle.pr_sets.specs.Spans.{has}
-use Rattle.pr_log.specs.Sets.{is_in_any}
+use Rattle.pr_sets.proofs.Lists.{has_append}
+use Rattle.std.specs.Cmp.Lexicographic.{slice_cmp}
+use Rattle.std.specs.Ordering.{match_ordering, nat_cmp}
+use Rattle.std.specs.BTreeSet.{insert_key}
+use Rattle.std.proofs.lemmas.Map.Lookups.{exact_bytes}
+use Rattle.pr_log.specs.Sets.{Gathered, is_any, is_gathered, is_in_any}
 
 pub false_true : {A : Type 0} → false ≡ true → A
 false_true e = cc
@@ -64,13 +69,45 @@ one_holds n o b hn ho hb under least =
       ]
     ]
 
-pub one_has : {E : Type 0} (n : List ℕ) (b : Bound) (s : Span) (r : Result (List Span) E) → IsName n → IsBound b → b ≡ after_of n → IsLeastAbove n b → s ≡ record { lo = n; hi = b } → IfOk r (λ set. set ≡ s ∷ []) → IfOk r (λ set. (o : List ℕ) → IsName o → has set o ≡ bytes_eq n o)
-one_has n b s (Ok set) hn hb after least is list = λ o ho. ap (λ l. has l o) list ∙ or_none (holds s o) ∙ ap (λ t. holds t o) is ∙ one_holds n o b hn ho hb (subst (λ x. IsTrue (is_under n x)) (sym after) (one_some n hn)) least
-one_has n b s (Err e) hn hb after least is list = tt
+-- the interval of a name alone holds just that name
+pub one_has : (n : List ℕ) (b : Bound) (r : Option Span) → IsName n → IsBound b → b ≡ after_of n → IsLeastAbove n b → IfSome r (λ s. s ≡ record { lo = n; hi = b }) → IfSome r (λ s. (o : List ℕ) → IsName o → holds s o ≡ bytes_eq n o)
+one_has n b (Some s) hn hb after least is = λ o ho. ap (λ t. holds t o) is ∙ one_holds n o b hn ho hb (subst (λ x. IsTrue (is_under n x)) (sym after) (one_some n hn)) least
+one_has n b None hn hb after least is = tt
 
 -- there is such an interval
 pub one_is_some : {A : Type 0} (n : List ℕ) (b : Bound) (r : Option Span) → IsName n → b ≡ after_of n → is_some r ≡ is_under n b → r ≡ None → A
 one_is_some n b r hn after some none = false_true (sym (ap is_some none) ∙ some ∙ subst (λ x. IsTrue (is_under n x)) (sym after) (one_some n hn))
+
+-- the set has the name of an interval behind it too
+pub behind : {U E : Type 0} (r : Result U E) (set new : List Span) (part : Span) (n : List ℕ) → OnOk r (new ≡ set ++ part ∷ []) → ((o : List ℕ) → IsName o → holds part o ≡ bytes_eq n o) → OnOk r ((o : List ℕ) → IsName o → has new o ≡ (has set o || bytes_eq n o))
+behind (Ok u) set new part n is just = λ o ho.
+    ap (λ l. has l o) is ∙ has_append set (part ∷ []) o ∙ ap (λ b. has set o || b) (or_none (holds part o) ∙ just o ho)
+behind (Err e) set new part n is just = tt
+
+-- ---- names by themselves
+
+or_again : (p q : Bool) → (p || q) ≡ ((p || q) || p)
+or_again true q = refl
+or_again false q = sym (or_none q)
+
+-- a name that is put among others is one of them
+pub put_among : (ns : List (List ℕ)) (n o : List ℕ) → is_any (insert_key (slice_cmp nat_cmp) ns n) o ≡ (is_any ns o || bytes_eq n o)
+put_among [] n o = or_none (bytes_eq n o)
+put_among (x ∷ xs) n o = placed (slice_cmp nat_cmp n x) refl (put_among xs n o)
+  where
+    placed : (r : Ordering) → slice_cmp nat_cmp n x ≡ r → is_any (insert_key (slice_cmp nat_cmp) xs n) o ≡ (is_any xs o || bytes_eq n o) → is_any (match_ordering r (n ∷ x ∷ xs) (x ∷ xs) (x ∷ insert_key (slice_cmp nat_cmp) xs n)) o ≡ (is_any (x ∷ xs) o || bytes_eq n o)
+    placed Less at more = or_swap (bytes_eq n o) (is_any (x ∷ xs) o)
+    placed Equal at more = or_again (bytes_eq x o) (is_any xs o) ∙ ap (λ m. is_any (x ∷ xs) o || bytes_eq m o) (sym (exact_bytes n x at))
+    placed Greater at more = ap (λ b. bytes_eq x o || b) more ∙ sym (or_assoc (bytes_eq x o) (is_any xs o) (bytes_eq n o))
+
+or_turn : (a b s : Bool) → ((a || b) || s) ≡ ((a || s) || b)
+or_turn true b s = refl
+or_turn false b s = or_swap b s
+
+pub name_more : (g h : Gathered) (n o : List ℕ) → h.names ≡ insert_key (slice_cmp nat_cmp) g.names n → h.sets ≡ g.sets → is_gathered h o ≡ (is_gathered g o || bytes_eq n o)
+name_more g h n o is same =
+    ap (λ l. is_any l o || is_in_any h.sets o) is ∙ ap (λ l. is_any (insert_key (slice_cmp nat_cmp) g.names n) o || is_in_any l o) same
+    ∙ ap (λ b. b || is_in_any g.sets o) (put_among g.names n o) ∙ or_turn (is_any g.names o) (bytes_eq n o) (is_in_any g.sets o)
 
 -- ---- many sets
 

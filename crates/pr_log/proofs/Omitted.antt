@@ -10,7 +10,6 @@ use Rattle.pr_names.specs.Span.{Span}
 use Rattle.pr_sets.specs.Spans.{has, IsSet, IsSetOf}
 use Rattle.pr_vectors.specs.Vector.{clock_of}
 use Rattle.pr_inval.specs.declared.write_rec.WriteRec.{WriteRec}
-use Rattle.pr_log.specs.Sets.{is_in_any}
 use Rattle.pr_log.specs.Known.{Has, IsByStamp, IsFirstAbove, IsOmittedBetween, IsOmittedOf, write_at}
 use Rattle.pr_log.proofs.Clocks.{less_or, same_some}
 use Rattle.pr_stamps.proofs.Places.{below_or}
@@ -115,7 +114,7 @@ is_omitted : (rows : List (List (ℕ × WriteRec))) (from to : List ℕ) (sub : 
 is_omitted rows from to sub o (n, lt, (out, (x, known, name, node, above, within))) =
     (out, (x, known, name, (subst (λ k. clock_of from k < x.stamp.clock) (sym node) above, subst (λ k. x.stamp.clock ≤ clock_of to k) (sym node) within)))
 
-pub set_of_omitted : {E : Type 0} (r : Result (List Span) E) (rows : List (List (ℕ × WriteRec))) (from to : List ℕ) (sub : List Span) (names : List (List Span)) → IsByStamp rows → IfOk r IsSet → IfOk r (λ set. (o : List ℕ) → IsName o → has set o ≡ is_in_any names o) → ((o : List ℕ) → IsName o → IsTrue (is_in_any names o) ↔ IsOmittedBelow rows from to sub 32 o) → IfOk r (λ set. IsSetOf set (IsOmittedBetween rows from to sub))
+pub set_of_omitted : {E : Type 0} (r : Result (List Span) E) (rows : List (List (ℕ × WriteRec))) (from to : List ℕ) (sub : List Span) (names : List ℕ → Bool) → IsByStamp rows → IfOk r IsSet → IfOk r (λ set. (o : List ℕ) → IsName o → has set o ≡ names o) → ((o : List ℕ) → IsName o → IsTrue (names o) ↔ IsOmittedBelow rows from to sub 32 o) → IfOk r (λ set. IsSetOf set (IsOmittedBetween rows from to sub))
 set_of_omitted (Ok set) rows from to sub names by_stamp one same each = record {
   one_list = one;
   has_them = λ o name is. same o name ∙ (each o name).1 (omitted_is rows from to sub o by_stamp is);

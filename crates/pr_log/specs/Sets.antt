@@ -1,6 +1,7 @@
 -- The dark names of one writer's points, by the clocks at which they change.
-use Rattle.std.specs.Prelude.{◌≡◌, ◌≤◌, ◌&&◌, ℕ, Bool, false, not, zero, suc, List, Option, None, Some}
+use Rattle.std.specs.Prelude.{◌≡◌, ◌≤◌, ◌&&◌, ◌||◌, ℕ, Bool, false, not, zero, suc, List, Option, None, Some}
 use Rattle.std.specs.List.{list_any}
+use Rattle.std.specs.Str.{bytes_eq}
 use Rattle.std.specs.Map.{lookup}
 use Rattle.std.specs.Option.{option_or}
 use Rattle.std.specs.Ordering.{is_eq, nat_cmp}
@@ -39,3 +40,16 @@ IsNarrowed target (Some was) now =
 -- the name is in one of the sets
 abbrev pub is_in_any : List (List Span) → List ℕ → Bool
 is_in_any sets o = list_any (λ set. has set o) sets
+
+-- the name is one of these
+abbrev pub is_any : List (List ℕ) → List ℕ → Bool
+is_any names o = list_any (λ n. bytes_eq n o) names
+
+-- names and sets of names
+pub record Gathered : Type 0 where
+  pub names : List (List ℕ)
+  pub sets : List (List Span)
+
+-- the name is one of them
+abbrev pub is_gathered : Gathered → List ℕ → Bool
+is_gathered g o = is_any g.names o || is_in_any g.sets o

@@ -1,88 +1,77 @@
 // A union of many sets.
-ghost use Rattle.pr_log.specs.Sets.{is_in_any};
+ghost use Rattle.pr_log.specs.Sets.{is_any, is_gathered, is_in_any};
 ghost use Rattle.pr_names.specs.Name.{IsName};
-ghost use Rattle.pr_names.specs.Span.{Span};
+ghost use Rattle.pr_names.specs.Span.{holds};
 ghost use Rattle.pr_sets.specs.Spans.{IsSet, has};
-ghost use Rattle.std.specs.Prelude.{◌≡◌, ◌||◌, ◌++◌, ◌∷◌, ℕ, List, [], IfOk, OnOk, MatchOption, true, false};
+ghost use Rattle.std.specs.Prelude.{◌≡◌, ◌||◌, ◌++◌, ◌∷◌, ℕ, List, [], IfOk, IfSome, OnOk, MatchOption, None, true, false};
 ghost use Rattle.std.specs.Str.{bytes_eq};
 
 use pr_names::{Interval, Name};
 use pr_sets::NameSet;
 use pr_stamps::NoMemory;
 use std::alloc::Global;
+use std::collections::BTreeSet;
 use std::marker::Model;
 
-// Sets whose union is wanted. Those that come first have the more intervals, so that each interval is moved a
-// logarithmic number of times.
+// Names and sets whose union is wanted. The sets that come first have the more
+// intervals, so that each interval is moved a logarithmic number of times.
 #[derive(Drop)]
 pub struct Collector {
     alloc: Global,
+    names: BTreeSet<Name>,
     sets: Vec<NameSet>,
 }
 
 impl Model for Collector {
-    ghost use Rattle.std.specs.Prelude.{List};
-    ghost use Rattle.pr_names.specs.Span.{Span};
+    ghost use Rattle.pr_log.specs.Sets.{Gathered};
 
-    ghost Value = { List (List Span) };
+    ghost Value = { Gathered };
 
-    ghost view = { λ c. c.sets.items };
+    ghost view = { λ c. record { names = c.names.keys; sets = c.sets.items } };
 }
 
 impl Collector {
-    // No set, which takes no memory.
+    // No name, which takes no memory.
     pub fn new(alloc: Global) -> Collector
-        ensures { result ≡ [] }
+        ensures { (o : List ℕ) → is_gathered result o ≡ false }
     {
         Collector {
             alloc,
+            names: BTreeSet::new(alloc),
             sets: Vec::new(alloc),
         }
     }
 
     // Adds the names of a set.
     pub fn add(&mut self, set: NameSet) -> Result<(), NoMemory>
-        ensures { OnOk result ((o : List ℕ) → IsName o → is_in_any self.new o ≡ (is_in_any self.old o || has set o)) }
+        ensures { OnOk result ((o : List ℕ) → IsName o → is_gathered self.new o ≡ (is_gathered self.old o || has set o)) }
     {
-        let mut set = set;
-        while let Some(last) = pop_small(&mut self.sets, set.count()) {
-            set = last.union(self.alloc, &set)?;
-        }
-        self.sets.push(set)?;
-        Ok(())
+        add_set(self.alloc, &mut self.sets, set)
     }
 
     // Adds the names of a set that is kept elsewhere.
     pub fn add_copy(&mut self, set: &NameSet) -> Result<(), NoMemory>
-        ensures { OnOk result ((o : List ℕ) → IsName o → is_in_any self.new o ≡ (is_in_any self.old o || has set.now o)) }
+        ensures { OnOk result ((o : List ℕ) → IsName o → is_gathered self.new o ≡ (is_gathered self.old o || has set.now o)) }
     {
         let set = set.copy(self.alloc)?;
         self.add(set)
     }
 
-    // Adds every name.
-    pub fn add_all(&mut self) -> Result<(), NoMemory>
-        ensures { OnOk result ((o : List ℕ) → IsName o → is_in_any self.new o ≡ true) }
-    {
-        let all = every_name(self.alloc)?;
-        self.add(all)
-    }
-
-    // Adds one name.
+    // Adds one name, in time logarithmic in the names that were added so.
     pub fn add_name(&mut self, name: &Name) -> Result<(), NoMemory>
-        ensures { OnOk result ((o : List ℕ) → IsName o → is_in_any self.new o ≡ (is_in_any self.old o || bytes_eq name.now o)) }
+        ensures { OnOk result ((o : List ℕ) → IsName o → is_gathered self.new o ≡ (is_gathered self.old o || bytes_eq name.now o)) }
     {
-        let set = one_name(self.alloc, name)?;
-        self.add(set)
+        self.names.insert(*name)?;
+        Ok(())
     }
 
-    // The names of all sets.
+    // The names of all sets and the names alone.
     pub fn union(self) -> Result<NameSet, NoMemory>
         ensures set { IfOk result IsSet }
-        ensures names { IfOk result (λ set. (o : List ℕ) → IsName o → has set o ≡ is_in_any self o) }
+        ensures names { IfOk result (λ set. (o : List ℕ) → IsName o → has set o ≡ is_gathered self o) }
     {
+        let mut union = set_of(self.alloc, self.names)?;
         let mut sets = self.sets;
-        let mut union = NameSet::empty(self.alloc);
         while let Some(set) = sets.pop() {
             union = union.union(self.alloc, &set)?;
         }
@@ -91,22 +80,59 @@ impl Collector {
     }
 }
 
+// Adds the names of a set to those of the sets.
+fn add_set(alloc: Global, sets: &mut Vec<NameSet>, set: NameSet) -> Result<(), NoMemory>
+    ensures { OnOk result ((o : List ℕ) → IsName o → is_in_any sets.new.items o ≡ (is_in_any sets.old.items o || has set o)) }
+{
+    let mut set = set;
+    while let Some(last) = pop_small(sets, set.count()) {
+        set = last.union(alloc, &set)?;
+    }
+    sets.push(set)?;
+    Ok(())
+}
+
+// The set of these names, of which each comes after those before it.
+fn set_of(alloc: Global, names: BTreeSet<Name>) -> Result<NameSet, NoMemory>
+    ensures { IfOk result (λ set. (o : List ℕ) → IsName o → has set o ≡ is_any names.keys o) }
+{
+    let mut names = names;
+    let mut set = NameSet::empty(alloc);
+    while let Some(name) = names.pop_first() {
+        put(alloc, &mut set, &name)?;
+    }
+    Ok(set)
+}
+
+// Adds a name to a set, in constant time where it comes after the set's intervals and touches none.
+fn put(alloc: Global, set: &mut NameSet, name: &Name) -> Result<(), NoMemory>
+    ensures { OnOk result ((o : List ℕ) → IsName o → has set.new o ≡ (has set.old o || bytes_eq name.now o)) }
+{
+    let Some(part) = interval_of(name) else {
+        return Ok(());
+    };
+    if set.can_push(&part) {
+        return set.push(part);
+    }
+    let one = NameSet::of(alloc, part)?;
+    *set = set.union(alloc, &one)?;
+    Ok(())
+}
+
+// The interval of the name alone.
+fn interval_of(name: &Name) -> Option<Interval>
+    ensures some { IfSome result (λ part. (o : List ℕ) → IsName o → holds part o ≡ bytes_eq name.now o) }
+    ensures none { result ≡ None → (o : List ℕ) → IsName o → bytes_eq name.now o ≡ false }
+{
+    let _ = name.bytes();
+    Interval::new(*name, name.after())
+}
+
 // The set of every name.
 pub fn every_name(alloc: Global) -> Result<NameSet, NoMemory>
     ensures { IfOk result (λ set. (o : List ℕ) → IsName o → has set o ≡ true) }
 {
     NameSet::empty(alloc).complement(alloc)
-}
-
-// The set of one name.
-fn one_name(alloc: Global, name: &Name) -> Result<NameSet, NoMemory>
-    ensures { IfOk result (λ set. (o : List ℕ) → IsName o → has set o ≡ bytes_eq name.now o) }
-{
-    let _ = name.bytes();
-    match Interval::new(*name, name.after()) {
-        Some(part) => NameSet::of(alloc, part),
-        None => Ok(NameSet::empty(alloc)),
-    }
 }
 
 // Takes out the last set, if it has at most twice as many intervals.

@@ -1,6 +1,6 @@
 // The dark names of all nodes' points.
 ghost use Rattle.pr_log.specs.Dark.{IsDarkBetween, IsLitToo, IsRowRefined, is_lit_in, sets_of};
-ghost use Rattle.pr_log.specs.Sets.{IsDarkAt, is_in_any, is_lit_at};
+ghost use Rattle.pr_log.specs.Sets.{IsDarkAt, is_gathered, is_lit_at};
 ghost use Rattle.pr_names.specs.Name.{IsName};
 ghost use Rattle.pr_sets.specs.Spans.{IsSetOf};
 ghost use Rattle.pr_stamps.specs.Point.{Point};
@@ -141,7 +141,7 @@ fn collect_row(
     names: &mut Collector,
 ) -> Result<(), NoMemory>
     requires { to ≤ 4611686018427387903 }
-    ensures { OnOk result ((o : List ℕ) → IsName o → IsTrue (is_in_any names.new o) ↔ (IsTrue (is_in_any names.old o) ⊎ ((own ≡ false) × IsDarkAt row.now (from + 1) to o))) }
+    ensures { OnOk result ((o : List ℕ) → IsName o → IsTrue (is_gathered names.new o) ↔ (IsTrue (is_gathered names.old o) ⊎ ((own ≡ false) × IsDarkAt row.now (from + 1) to o))) }
 {
     if own || to <= from {
         return Ok(());

@@ -1,7 +1,7 @@
 //! The known writes of a log.
+ghost use Rattle.pr_log.specs.Sets.{is_gathered};
 ghost use Rattle.pr_log.specs.Known.{Has, IsAdded, IsByStamp, IsFirstAbove, IsForgotten, IsForgottenUpTo, IsOmittedBetween, IsOmittedOf, IsWaiting, uncovered};
 ghost use Rattle.pr_log.specs.Latest.{IsNextLatestOf};
-ghost use Rattle.pr_log.specs.Sets.{is_in_any};
 ghost use Rattle.pr_names.specs.Name.{IsName};
 ghost use Rattle.pr_sets.specs.Spans.{IsSetOf, has};
 ghost use Rattle.std.specs.Str.{bytes_eq};
@@ -112,7 +112,7 @@ impl Index {
         names: &mut Collector,
     ) -> Result<(), NoMemory>
         requires { writer < 32 }
-        ensures { OnOk result ((o : List ℕ) → IsName o → IsTrue (is_in_any names.new o) ↔ (IsTrue (is_in_any names.old o) ⊎ IsOmittedOf self.now sub.now writer from to o)) }
+        ensures { OnOk result ((o : List ℕ) → IsName o → IsTrue (is_gathered names.new o) ↔ (IsTrue (is_gathered names.old o) ⊎ IsOmittedOf self.now sub.now writer from to o)) }
     {
         if self.is_up_to(writer, to) {
             return self.omit_past(writer, from, to, sub, names);
@@ -131,7 +131,7 @@ impl Index {
     ) -> Result<(), NoMemory>
         requires writer { writer < 32 }
         requires end { (x : WriteRec) → Has self.now x → x.stamp.node ≡ writer → x.stamp.clock ≤ to }
-        ensures { OnOk result ((o : List ℕ) → IsName o → IsTrue (is_in_any names.new o) ↔ (IsTrue (is_in_any names.old o) ⊎ IsOmittedOf self.now sub.now writer from to o)) }
+        ensures { OnOk result ((o : List ℕ) → IsName o → IsTrue (is_gathered names.new o) ↔ (IsTrue (is_gathered names.old o) ⊎ IsOmittedOf self.now sub.now writer from to o)) }
     {
         let mut clock = from;
         while let Some(write) = self.latest_above(writer, clock) {
@@ -151,7 +151,7 @@ impl Index {
         names: &mut Collector,
     ) -> Result<(), NoMemory>
         requires { writer < 32 }
-        ensures { OnOk result ((o : List ℕ) → IsName o → IsTrue (is_in_any names.new o) ↔ (IsTrue (is_in_any names.old o) ⊎ IsOmittedOf self.now sub.now writer from to o)) }
+        ensures { OnOk result ((o : List ℕ) → IsName o → IsTrue (is_gathered names.new o) ↔ (IsTrue (is_gathered names.old o) ⊎ IsOmittedOf self.now sub.now writer from to o)) }
     {
         let mut clock = from;
         while let Some(write) = self.first_between(writer, clock, to) {
@@ -258,7 +258,7 @@ fn up_to(write: WriteRec, clock: u64) -> Option<WriteRec>
 
 // Adds the name, if it is none of these.
 fn add_outside(names: &mut Collector, sub: &NameSet, name: &Name) -> Result<(), NoMemory>
-    ensures { OnOk result ((o : List ℕ) → IsName o → is_in_any names.new o ≡ (is_in_any names.old o || (bytes_eq name.now o && not (has sub.now name.now)))) }
+    ensures { OnOk result ((o : List ℕ) → IsName o → is_gathered names.new o ≡ (is_gathered names.old o || (bytes_eq name.now o && not (has sub.now name.now)))) }
 {
     if sub.has(name) {
         return Ok(());

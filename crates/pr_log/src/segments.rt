@@ -1,5 +1,5 @@
 // The dark names of one node's points.
-ghost use Rattle.pr_log.specs.Sets.{IsDarkAt, IsNarrowed, begins_at, is_in_any, is_lit_at, standing};
+ghost use Rattle.pr_log.specs.Sets.{IsDarkAt, IsNarrowed, begins_at, is_gathered, is_lit_at, standing};
 ghost use Rattle.pr_names.specs.Name.{IsName};
 ghost use Rattle.pr_names.specs.Span.{Span};
 ghost use Rattle.pr_sets.specs.Spans.{has};
@@ -76,7 +76,7 @@ impl Segments {
     pub fn collect(&self, lo: u64, hi: u64, names: &mut Collector) -> Result<(), NoMemory>
         requires order { lo ≤ hi }
         requires most { hi ≤ 4611686018427387903 }
-        ensures { OnOk result ((o : List ℕ) → IsName o → IsTrue (is_in_any names.new o) ↔ (IsTrue (is_in_any names.old o) ⊎ IsDarkAt self.now lo hi o)) }
+        ensures { OnOk result ((o : List ℕ) → IsName o → IsTrue (is_gathered names.new o) ↔ (IsTrue (is_gathered names.old o) ⊎ IsDarkAt self.now lo hi o)) }
     {
         names.add(dark_at(&self.sets, self.alloc, lo)?)?;
         let mut clock = lo;

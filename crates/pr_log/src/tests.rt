@@ -190,6 +190,19 @@ fn names_outside_the_subscription_are_omitted(rt: HostRuntime) -> Result<(), Fai
     Ok(())
 }
 
+// No name lies between `a` and `a-`.
+#[test]
+fn omitted_names_that_touch_are_one_interval(rt: HostRuntime) -> Result<(), Fail> {
+    let mut log = log(rt.alloc())?;
+    let writes: [(&[u8], u64); 4] = [(b"c", 1), (b"a-", 2), (b"a", 3), (b"c", 4)];
+    for (name, clock) in writes {
+        tell_write(rt.alloc(), &mut log, name, clock)?;
+    }
+    let names = omitted(rt.alloc(), &log, b"b")?;
+    assert_eq!(rt; names.as_slice(), b"a:a--,c".as_slice());
+    Ok(())
+}
+
 #[test]
 fn a_cut_log_forgets_its_writes(rt: HostRuntime) -> Result<(), Fail> {
     let mut log = log(rt.alloc())?;

@@ -1,4 +1,4 @@
-use Rattle.std.proofs.Common.{arith, subst, ap, ◌∙◌}
+use Rattle.std.proofs.Common.{arith, subst, ◌∙◌}
 use Rattle.std.proofs.lemmas.List.{length-set}
 use Rattle.std.specs.Prelude.{option_copied}
 use Rattle.pr_log.specs.Known.{IsFirstAbove}

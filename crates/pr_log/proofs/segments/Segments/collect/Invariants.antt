@@ -1,14 +1,14 @@
 use Rattle.std.proofs.Common.{ℕ, List, ◌≤◌, ◌-◌}
 use Rattle.std.specs.Prelude.{◌⊎◌, ◌↔◌, IsTrue}
 use Rattle.pr_names.specs.Name.{IsName}
-use Rattle.pr_log.specs.Sets.{is_in_any, IsDarkAt}
+use Rattle.pr_log.specs.Sets.{is_gathered, IsDarkAt}
 use Rattle.pr_log.proofs.segments.Segments.collect.Given as goal
 
 abbrev pub invariant-loop-start : goal.invariant-loop-start
 invariant-loop-start l = record {
   from : l.lo ≤ l.clock;
   within : l.clock ≤ l.hi;
-  names : (o : List ℕ) → IsName o → IsTrue (is_in_any l.names o) ↔ (IsTrue (is_in_any l.fn.names o) ⊎ IsDarkAt l.self-inside.sets.entries l.lo l.clock o);
+  names : (o : List ℕ) → IsName o → IsTrue (is_gathered l.names o) ↔ (IsTrue (is_gathered l.fn.names o) ⊎ IsDarkAt l.self-inside.sets.entries l.lo l.clock o);
 }
 
 abbrev pub decreases-loop-start : goal.decreases-loop-start
