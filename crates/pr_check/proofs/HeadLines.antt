@@ -9,7 +9,7 @@ use Rattle.std.proofs.lemmas.Grind.{flat_map-append}
 use Rattle.std.proofs.lemmas.List.{append-nil, append_cancel_left, append_cancel_right}
 use Rattle.std.proofs.lemmas.List.Concat.{flat_map-cons}
 use Rattle.pr_script.specs.declared.decl.Decl.{Decl}
-use Rattle.pr_script.specs.declared.decl.Decls.{Decls}
+use Rattle.pr_script.specs.Listed.{Declarations}
 use Rattle.pr_script.specs.declared.item.Item.{Item}
 use Rattle.pr_script.specs.declared.item.Item.TheVariants as items
 use Rattle.pr_script.specs.declared.script.Script.{Script}
@@ -226,17 +226,17 @@ module _ (ds : List Decl) (a : AreAccepted ds) (line : List ℕ) where
       by true e = let p = both _ _ e in found p.0 p.1
       by false e = missed e
 
-  pub declares_if : (s : Script) (count : ℕ) (t : List ℕ) → count ≡ length ds → t ≡ text → Means t (Ok s) → (r : Result (Option Decls) NoMemory)
+  pub declares_if : (s : Script) (count : ℕ) (t : List ℕ) → count ≡ length ds → t ≡ text → Means t (Ok s) → (r : Result (Option Declarations) NoMemory)
       → IfOk r (λ found. found ≡ more_if s.decls count t) → IfOk r (Declares ds line)
   declares_if s count t n e m (Ok found) h =
       subst (Declares ds line) (sym (h ∙ ap (λ (k : ℕ). more_if s.decls k t) n ∙ ap (λ (u : List ℕ). more_if s.decls (length ds) u) e)) (declares s (subst (λ (u : List ℕ). Means u (Ok s)) e m))
   declares_if s count t n e m (Err f) h = h
 
-  accepted_more : (found : Option Decls) → Declares ds line found → IfSome found (λ more. AreAccepted more.list)
+  accepted_more : (found : Option Declarations) → Declares ds line found → IfSome found (λ more. AreAccepted more.list)
   accepted_more (Some more) (d, e, h) = subst AreAccepted (sym e) h.accepted
   accepted_more None h = tt
 
-  pub accepted_if : (r : Result (Option Decls) NoMemory) → IfOk r (Declares ds line) → IfOk r (λ found. IfSome found (λ more. AreAccepted more.list))
+  pub accepted_if : (r : Result (Option Declarations) NoMemory) → IfOk r (Declares ds line) → IfOk r (λ found. IfSome found (λ more. AreAccepted more.list))
   accepted_if (Ok found) h = accepted_more found h
   accepted_if (Err f) h = h
 

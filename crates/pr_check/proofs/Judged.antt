@@ -4,7 +4,7 @@ use Rattle.std.proofs.Common.{◌≡◌, ◌<◌, ◌+◌, ℕ, Bool, true, fals
 use Rattle.std.specs.Prelude.{IsTrue}
 use Rattle.std.proofs.lemmas.List.{append-nil, length-append}
 use Rattle.pr_script.specs.declared.decl.Decl.{Decl}
-use Rattle.pr_script.specs.declared.decl.Decls.{Decls}
+use Rattle.pr_script.specs.Listed.{Declarations}
 use Rattle.pr_script.specs.Good.{AreGoodDecls}
 use Rattle.pr_script.specs.Printing.{decl_lines}
 use Rattle.pr_script.proofs.GoodScripts.{are_good}
@@ -58,11 +58,11 @@ pub fresh : (ds : List Decl) → ds ≡ [] → [] ≡ decl_lines [] ds
 unfolding decl_lines
 fresh ds is = ap (λ (xs : List Decl). decl_lines [] xs) (sym is)
 
-pub one_head : (ds : List Decl) (line : List ℕ) (more : Decls) → Declares ds line (Some more) → decl_lines [] ds ++ line ∷ [] ≡ decl_lines [] more.list
+pub one_head : (ds : List Decl) (line : List ℕ) (more : Declarations) → Declares ds line (Some more) → decl_lines [] ds ++ line ∷ [] ≡ decl_lines [] more.list
 one_head ds line more (d, is, head) =
     ap (λ (l : List ℕ). decl_lines [] ds ++ l ∷ []) head.text ∙ sym (push_decl [] ds d) ∙ ap (λ (xs : List Decl). decl_lines [] xs) (sym is)
 
-pub head_begins : (ds : List Decl) (line : List ℕ) (more : Decls) → AreAccepted more.list → Declares ds line (Some more) → BeginsTranscript (decl_lines [] ds ++ line ∷ [])
+pub head_begins : (ds : List Decl) (line : List ℕ) (more : Declarations) → AreAccepted more.list → Declares ds line (Some more) → BeginsTranscript (decl_lines [] ds ++ line ∷ [])
 head_begins ds line more accepted is = inl (more.list, accepted, ([], append-nil (decl_lines [] ds ++ line ∷ []) ∙ one_head ds line more is))
 
 pub good_decls : (ds : List Decl) → AreAccepted ds → AreGoodDecls ds

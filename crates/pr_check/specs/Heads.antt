@@ -3,7 +3,7 @@ use Rattle.std.specs.Prelude.{ℕ, ◌≡◌, ◌+◌, List, [], ◌∷◌, ◌+
 use Rattle.std.specs.List.{starts_with}
 use Rattle.std.specs.Str.{bytes_eq}
 use Rattle.pr_script.specs.declared.decl.Decl.{Decl}
-use Rattle.pr_script.specs.declared.decl.Decls.{Decls}
+use Rattle.pr_script.specs.Listed.{Declarations}
 use Rattle.pr_script.specs.declared.script.Script.{Script}
 use Rattle.pr_script.specs.Printing.{decl_text}
 use Rattle.pr_script.specs.Reading.{Means}
@@ -23,10 +23,10 @@ pub record IsHead (ds : List Decl) (line : List ℕ) (d : Decl) : Type 0 where
   pub text : line ≡ decl_text ds d
 
 -- the declarations with the one whose head line it is; or it is none
-abbrev pub Declares : List Decl → List ℕ → Option Decls → Type 0
+abbrev pub Declares : List Decl → List ℕ → Option Declarations → Type 0
 Declares ds line (Some more) = (d : Decl) × (more.list ≡ ds ++ d ∷ []) × IsHead ds line d
 Declares ds line None = (d : Decl) → ¬ IsHead ds line d
 
 -- one more than there were, where the text is their head lines
-abbrev pub more_if : Decls → ℕ → List ℕ → Option Decls
+abbrev pub more_if : Declarations → ℕ → List ℕ → Option Declarations
 more_if more count text = cond (nat_eq (length more.list) (count + 1) && bytes_eq (heads_text more.list) text) (Some more) None

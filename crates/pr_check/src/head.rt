@@ -22,9 +22,7 @@ pub fn no_decls(alloc: Global) -> Decls
     ensures accepted { AreAccepted result.list }
     ensures labels { AreLabels result.list }
 {
-    Decls {
-        list: Seq::new(alloc),
-    }
+    Decls::new(alloc)
 }
 
 /// The declarations with one more, whose head line this is, without its end; None where it is none. All head lines are
@@ -38,7 +36,7 @@ pub fn read_head(alloc: Global, decls: &Decls, line: &[u8]) -> Result<Option<Dec
     let text = with_line(alloc, decls, line)?;
     let bytes = text.as_slice();
     match read(alloc, bytes) {
-        Ok(script) => more_if(alloc, script.decls, decls.list.len(), bytes),
+        Ok(script) => more_if(alloc, script.decls, decls.as_slice().len(), bytes),
         Err(ScriptFault::NoMemory) => Err(NoMemory),
         Err(ScriptFault::Bad { .. }) => Ok(None),
     }
@@ -61,7 +59,7 @@ fn more_if(alloc: Global, more: Decls, count: usize, text: &[u8]) -> Result<Opti
     ensures value { IfOk result (λ found. found ≡ more_if more count text.now) }
     ensures labels { IfOk result (λ found. IfSome found (λ more. AreLabels more.list)) }
 {
-    if more.list.is_empty() || more.list.len() - 1 != count {
+    if more.as_slice().is_empty() || more.as_slice().len() - 1 != count {
         return Ok(None);
     }
     let mut printed = Seq::new(alloc);

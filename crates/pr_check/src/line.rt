@@ -12,7 +12,7 @@ use crate::event::told;
 use crate::refusal::Refusal;
 use crate::said::{Said, said_of};
 use crate::told::Told;
-use pr_script::{Decl, Decls, Kind, label_at};
+use pr_script::{Decls, Kind};
 use pr_stamps::{NoMemory, Seq};
 use pr_story::Event;
 use pr_text::line as print_line;
@@ -25,8 +25,8 @@ pub fn read_line(alloc: Global, decls: &Decls, line: &[u8]) -> Result<Option<Sai
     requires { AreLabels decls.now.list }
     ensures { IfOk result (Says decls.now.list line.now) }
 {
-    let list = decls.list.as_slice();
-    if !has_node(list) {
+    let list = decls.as_slice();
+    if !has_node(decls) {
         return Ok(None);
     }
     match told(alloc, list, line) {
@@ -37,11 +37,11 @@ pub fn read_line(alloc: Global, decls: &Decls, line: &[u8]) -> Result<Option<Sai
 }
 
 // Whether a node is declared.
-fn has_node(decls: &[Decl]) -> bool
-    requires { AreLabels decls.now }
-    ensures { IsTrue result ↔ Has decls.now kinds.Node 0 }
+fn has_node(decls: &Decls) -> bool
+    requires { AreLabels decls.now.list }
+    ensures { IsTrue result ↔ Has decls.now.list kinds.Node 0 }
 {
-    !label_at(decls, Kind::Node, 0).is_empty()
+    !decls.label(Kind::Node, 0).is_empty()
 }
 
 // What the event says, where the line is its line.

@@ -37,5 +37,5 @@ impl Reading {
 fn lines(transcript: &Transcript) -> u64
     ensures { (h : List NodeEntry) → Tells (declared_of transcript.now.decls.list) h transcript.now.engine → result ≡ length transcript.now.decls.list + length h }
 {
-    (transcript.decls.list.as_slice().len() + transcript.engine.history().len()) as u64
+    (transcript.decls.as_slice().len() + transcript.engine.history().len()) as u64
 }

@@ -63,7 +63,7 @@ pub fn is_last_line(
     requires { (h : List NodeEntry) × Tells (declared_of decls.now.list) h engine.now }
     ensures { (h : List NodeEntry) → Tells (declared_of decls.now.list) h engine.now → IfOk result (λ is. is ≡ bytes_eq (end_line (length decls.now.list + length h)) line.now) }
 {
-    let lines = decls.list.as_slice().len() + engine.history().len();
+    let lines = decls.as_slice().len() + engine.history().len();
     is_ok(alloc, lines as u64, line)
 }
 

@@ -194,7 +194,7 @@ fn other_lines(rt: HostRuntime) -> Result<(), Fail> {
 fn count(alloc: Global, first: &[u8], second: &[u8]) -> Option<usize> {
     let one = read_head(alloc, &no_decls(alloc), first).ok()??;
     let two = read_head(alloc, &one, second).ok()??;
-    Some(two.list.len())
+    Some(two.as_slice().len())
 }
 
 #[test]

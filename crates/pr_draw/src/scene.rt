@@ -29,7 +29,7 @@ pub struct Scene<'a> {
 impl<'a> Scene<'a> {
     /// The scene of a transcript, in time linear in its lines.
     pub fn new(alloc: Global, transcript: &'a Transcript) -> Result<Scene<'a>, NoMemory> {
-        let decls = transcript.decls.list.as_slice();
+        let decls = transcript.decls.as_slice();
         let engine = &transcript.engine;
         let routes = routes(alloc, decls)?;
         let flights = Flights::new(alloc, routes.len(), engine)?;

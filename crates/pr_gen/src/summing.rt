@@ -23,7 +23,7 @@ pub fn summary<H: Held>(decls: &Decls, held: &H, out: &mut Bytes) -> Result<(), 
     ensures { (h : List NodeEntry) → HasHistory H.Node.journal h (H.state held.now) → OnOk result (out.new ≡ out.old ++ summary_text decls.now.list h) }
 {
     push_counts(&tally(held), out)?;
-    push_vectors(decls.list.as_slice(), held, out)?;
+    push_vectors(decls, held, out)?;
     ok(held.history().len() as u64, out)
 }
 
@@ -71,11 +71,11 @@ fn push_count(word: Counted, count: u64, out: &mut Bytes) -> Result<(), NoMemory
 }
 
 // Adds the lines of the nodes' vectors.
-fn push_vectors<H: Held>(decls: &[Decl], held: &H, out: &mut Bytes) -> Result<(), NoMemory>
-    requires { (h : List NodeEntry) × HasHistory H.Node.journal h (H.state held.now) × (node_count decls.now ≤ length (H.state held.now).nodes) × (node_count decls.now ≤ 32) }
-    ensures { (h : List NodeEntry) → HasHistory H.Node.journal h (H.state held.now) → OnOk result (out.new ≡ out.old ++ flat_map (vector_line decls.now h) (range_with_len 0 (node_count decls.now))) }
+fn push_vectors<H: Held>(decls: &Decls, held: &H, out: &mut Bytes) -> Result<(), NoMemory>
+    requires { (h : List NodeEntry) × HasHistory H.Node.journal h (H.state held.now) × (node_count decls.now.list ≤ length (H.state held.now).nodes) × (node_count decls.now.list ≤ 32) }
+    ensures { (h : List NodeEntry) → HasHistory H.Node.journal h (H.state held.now) → OnOk result (out.new ≡ out.old ++ flat_map (vector_line decls.now.list h) (range_with_len 0 (node_count decls.now.list))) }
 {
-    for node in 0..nodes_of(decls) {
+    for node in 0..nodes_of(decls.as_slice()) {
         push_node(decls, held, node as u32, out)?;
     }
     Ok(())
@@ -94,9 +94,9 @@ fn nodes_of(decls: &[Decl]) -> usize
     nodes
 }
 
-fn push_node<H: Held>(decls: &[Decl], held: &H, node: u32, out: &mut Bytes) -> Result<(), NoMemory>
+fn push_node<H: Held>(decls: &Decls, held: &H, node: u32, out: &mut Bytes) -> Result<(), NoMemory>
     requires { (h : List NodeEntry) × HasHistory H.Node.journal h (H.state held.now) × (node < length (H.state held.now).nodes) }
-    ensures { (h : List NodeEntry) → HasHistory H.Node.journal h (H.state held.now) → OnOk result (out.new ≡ out.old ++ vector_line decls.now h node) }
+    ensures { (h : List NodeEntry) → HasHistory H.Node.journal h (H.state held.now) → OnOk result (out.new ≡ out.old ++ vector_line decls.now.list h node) }
 {
     match held.journal(node) {
         None => unreachable!(),

@@ -18,46 +18,46 @@ const NODES: u8 = 8;
 pub fn declared(alloc: Global) -> Result<Decls, NoMemory>
     ensures { IfOk result (λ ds. ds.list ≡ topology.declared) }
 {
-    let mut list = Seq::new(alloc);
-    nodes(alloc, &mut list)?;
-    clients(alloc, &mut list)?;
-    streams_forth(alloc, &mut list)?;
-    streams_back(alloc, &mut list)?;
-    Ok(Decls { list })
+    let mut decls = Decls::new(alloc);
+    nodes(alloc, &mut decls)?;
+    clients(alloc, &mut decls)?;
+    streams_forth(alloc, &mut decls)?;
+    streams_back(alloc, &mut decls)?;
+    Ok(decls)
 }
 
-fn nodes(alloc: Global, list: &mut Seq<Decl>) -> Result<(), NoMemory>
-    ensures { OnOk result (list.new ≡ list.old ++ topology.each 8 topology.node) }
+fn nodes(alloc: Global, decls: &mut Decls) -> Result<(), NoMemory>
+    ensures { OnOk result (decls.new.list ≡ decls.old.list ++ topology.each 8 topology.node) }
 {
     for i in 0..NODES {
-        list.push(node(alloc, i)?)?;
+        decls.push(node(alloc, i)?)?;
     }
     Ok(())
 }
 
-fn clients(alloc: Global, list: &mut Seq<Decl>) -> Result<(), NoMemory>
-    ensures { OnOk result (list.new ≡ list.old ++ topology.each 8 topology.client) }
+fn clients(alloc: Global, decls: &mut Decls) -> Result<(), NoMemory>
+    ensures { OnOk result (decls.new.list ≡ decls.old.list ++ topology.each 8 topology.client) }
 {
     for i in 0..NODES {
-        list.push(client(alloc, i)?)?;
+        decls.push(client(alloc, i)?)?;
     }
     Ok(())
 }
 
-fn streams_forth(alloc: Global, list: &mut Seq<Decl>) -> Result<(), NoMemory>
-    ensures { OnOk result (list.new ≡ list.old ++ topology.each 8 topology.forth) }
+fn streams_forth(alloc: Global, decls: &mut Decls) -> Result<(), NoMemory>
+    ensures { OnOk result (decls.new.list ≡ decls.old.list ++ topology.each 8 topology.forth) }
 {
     for i in 0..NODES {
-        list.push(forth(alloc, i)?)?;
+        decls.push(forth(alloc, i)?)?;
     }
     Ok(())
 }
 
-fn streams_back(alloc: Global, list: &mut Seq<Decl>) -> Result<(), NoMemory>
-    ensures { OnOk result (list.new ≡ list.old ++ topology.each 8 topology.back) }
+fn streams_back(alloc: Global, decls: &mut Decls) -> Result<(), NoMemory>
+    ensures { OnOk result (decls.new.list ≡ decls.old.list ++ topology.each 8 topology.back) }
 {
     for i in 0..NODES {
-        list.push(back(alloc, i)?)?;
+        decls.push(back(alloc, i)?)?;
     }
     Ok(())
 }

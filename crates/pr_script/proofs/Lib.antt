@@ -6,6 +6,7 @@ pub mod AllFields
 pub mod SetLists
 pub mod OneCut
 pub mod Positions
+pub mod ByNumber
 pub mod Packing
 pub mod Sharing
 pub mod TextAgain

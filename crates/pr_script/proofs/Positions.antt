@@ -134,10 +134,10 @@ labels_more k ds d =
     ∙ map-append label_of (filter (is_kind k) ds) (filter (is_kind k) (d ∷ []))
     ∙ ap (λ (x : List (List ℕ)). labels_of k ds ++ x) (one_if (is_kind k d) d)
 
-labels_new : (k : Kind) (ds : List Decl) (d : Decl) → is_kind k d ≡ true → labels_of k (ds ++ d ∷ []) ≡ labels_of k ds ++ label_of d ∷ []
+pub labels_new : (k : Kind) (ds : List Decl) (d : Decl) → is_kind k d ≡ true → labels_of k (ds ++ d ∷ []) ≡ labels_of k ds ++ label_of d ∷ []
 labels_new k ds d e = labels_more k ds d ∙ ap (λ (t : Bool). labels_of k ds ++ cond t (label_of d ∷ []) []) e
 
-labels_stay : (k : Kind) (ds : List Decl) (d : Decl) → is_kind k d ≡ false → labels_of k (ds ++ d ∷ []) ≡ labels_of k ds
+pub labels_stay : (k : Kind) (ds : List Decl) (d : Decl) → is_kind k d ≡ false → labels_of k (ds ++ d ∷ []) ≡ labels_of k ds
 labels_stay k ds d e = labels_more k ds d ∙ ap (λ (t : Bool). labels_of k ds ++ cond t (label_of d ∷ []) []) e ∙ append-nil (labels_of k ds)
 
 keys_new : (k : Kind) (ds : List Decl) (d : Decl) (keys new : List ℕ) → is_kind k d ≡ true → keys ≡ map packed (labels_of k ds) → new ≡ keys ++ packed (label_of d) ∷ [] → new ≡ map packed (labels_of k (ds ++ d ∷ []))

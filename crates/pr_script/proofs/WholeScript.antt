@@ -4,7 +4,7 @@ use Rattle.std.specs.List.{AllByRecursion, list_all}
 use Rattle.std.proofs.lemmas.List.{map-append, append-nil}
 use Rattle.std.proofs.lemmas.Bool.Decides.{nat_tests}
 use Rattle.pr_script.specs.declared.decl.Decl.{Decl}
-use Rattle.pr_script.specs.declared.decl.Decls.{Decls}
+use Rattle.pr_script.specs.Listed.{Declarations}
 use Rattle.pr_script.specs.declared.decl.Decl.TheVariants as decls
 use Rattle.pr_script.specs.declared.command.Command.{Command}
 use Rattle.pr_script.specs.declared.command.Command.TheVariants as commands
@@ -197,7 +197,7 @@ lines_are ls m = all_parts start ls (λ e. refl) refl m
 
 -- ---- the whole
 
-abbrev known_decls : Known → Decls
+abbrev known_decls : Known → Declarations
 known_decls k = record { list = k.decls }
 
 pub answered : (f : Sofar) (s : Script) (o : Option (ℕ × ℕ)) (t : Bool) → f.fault ≡ o → f.known.in_phase ≡ t → unless_fault o (unless_fault (cond t (Some (f.lines + 1, 12)) None) (Ok (script_of f))) ≡ Ok s

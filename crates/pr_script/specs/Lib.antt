@@ -2,6 +2,7 @@ pub mod Fields
 pub mod Texts
 pub mod Sets
 pub mod Labels
+pub mod Listed
 pub mod Packed
 pub mod Known
 pub mod Parts

@@ -25,9 +25,3 @@ pub enum Decl {
         bodies: bool,
     },
 }
-
-/// The declarations of a script, in its order.
-#[derive(Drop)]
-pub struct Decls {
-    pub list: Seq<Decl>,
-}

@@ -5,6 +5,7 @@ mod clients;
 mod command;
 mod decl;
 mod declarations;
+mod decls;
 mod fault;
 mod fields;
 mod index;
@@ -35,11 +36,12 @@ mod want;
 mod word;
 
 pub use command::Command;
-pub use decl::{Decl, Decls};
+pub use decl::Decl;
+pub use decls::Decls;
 pub use fault::ScriptFault;
 pub use fields::name;
 pub use kind::Kind;
-pub use labels::{is_kind, label_at, label_of};
+pub use labels::{is_kind, label_of};
 pub use law::{
     accepted_scripts_are_good, labels_tell_declarations_apart, printed_scripts_read_back,
     scripts_have_one_meaning, sets_share_a_name_where_intervals_overlap, steps_follow_the_commands,

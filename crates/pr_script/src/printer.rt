@@ -22,7 +22,7 @@ pub fn print(script: &Script, out: &mut Bytes) -> Result<(), NoMemory>
     ensures ok { OnOk result (out.new ≡ out.old ++ script_text script.now) }
     ensures err { OnErr result (Begins out.old out.new) }
 {
-    let decls = script.decls.list.as_slice();
+    let decls = script.decls.as_slice();
     print_decls(decls, out)?;
     print_commands(decls, script.commands.as_slice(), out)
 }

@@ -5,12 +5,13 @@ ghost use Rattle.std.specs.Char.{is_ascii_alphanumeric};
 ghost use Rattle.std.specs.List.{AllByRecursion, list_all, list_any};
 ghost use Rattle.std.specs.Prelude.{◌≡◌, ◌≤◌, [], ◌∷◌, ◌++◌, OnErr, OnOk, false, length, map, nat_eq, true};
 
-use crate::decl::{Decl, Decls};
+use crate::decl::Decl;
+use crate::decls::Decls;
 use crate::index;
 use crate::kind::Kind;
 use crate::labels::{kind_of, label_of};
 use indexmap::IndexSet;
-use pr_stamps::{NoMemory, Seq};
+use pr_stamps::NoMemory;
 use std::alloc::Global;
 use std::marker::Model;
 
@@ -31,7 +32,7 @@ fn alphanumeric(field: &[u8]) -> bool
 /// is one of a hash.
 #[derive(Drop)]
 pub struct Table {
-    decls: Seq<Decl>,
+    decls: Decls,
     nodes: IndexSet<u128>,
     clients: IndexSet<u128>,
     streams: IndexSet<u128>,
@@ -44,9 +45,9 @@ impl Model for Table {
 
     ghost Value = { List Declared };
 
-    ghost view = { λ t. t.decls };
+    ghost view = { λ t. t.decls.list };
 
-    ghost invariant = { λ t. IsIndex t.decls t.nodes.keys t.clients.keys t.streams.keys };
+    ghost invariant = { λ t. IsIndex t.decls.list t.nodes.keys t.clients.keys t.streams.keys };
 }
 
 impl Table {
@@ -54,7 +55,7 @@ impl Table {
         ensures { result ≡ [] }
     {
         Table {
-            decls: Seq::new(alloc),
+            decls: Decls::new(alloc),
             nodes: IndexSet::new(alloc),
             clients: IndexSet::new(alloc),
             streams: IndexSet::new(alloc),
@@ -118,17 +119,17 @@ impl Table {
     pub fn into_decls(self) -> Decls
         ensures { result.list ≡ self }
     {
-        Decls { list: self.decls }
+        self.decls
     }
 }
 
 // Adds a declaration and its label's key, or neither.
-fn add(keys: &mut IndexSet<u128>, decls: &mut Seq<Decl>, decl: Decl) -> Result<(), NoMemory>
+fn add(keys: &mut IndexSet<u128>, decls: &mut Decls, decl: Decl) -> Result<(), NoMemory>
     requires short { length (label_of decl) ≤ 16 }
     requires new { list_any (nat_eq (packed (label_of decl))) keys.old.keys ≡ false }
-    ensures ok { OnOk result (decls.new ≡ decls.old ++ decl ∷ []) }
+    ensures ok { OnOk result (decls.new.list ≡ decls.old.list ++ decl ∷ []) }
     ensures key { OnOk result (keys.new.keys ≡ keys.old.keys ++ packed (label_of decl) ∷ []) }
-    ensures err { OnErr result (decls.new ≡ decls.old) }
+    ensures err { OnErr result (decls.new.list ≡ decls.old.list) }
     ensures no_key { OnErr result (keys.new.keys ≡ keys.old.keys) }
 {
     let key = index::packed(label_of(&decl));

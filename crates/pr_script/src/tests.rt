@@ -2,6 +2,7 @@ ghost use Rattle.std.specs.Prelude.{◌<◌};
 
 mod examples;
 mod jobs;
+mod labels;
 mod long;
 
 use crate::{Bytes, Reader, Script, ScriptFault, print, read};
@@ -277,7 +278,7 @@ fn pieces_are_read_as_the_whole(rt: HostRuntime) {
 
 fn counts(script: &Result<Script, ScriptFault>) -> (usize, usize) {
     match script {
-        Ok(script) => (script.decls.list.len(), script.commands.len()),
+        Ok(script) => (script.decls.as_slice().len(), script.commands.len()),
         Err(_) => (0, 0),
     }
 }

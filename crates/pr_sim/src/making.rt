@@ -24,7 +24,7 @@ impl Engine {
         ensures { IfOk result (λ e. IsRunning (declared_of decls.now.list) (λ s. false) [] e) }
     {
         let mut engine = Engine::empty(alloc);
-        for decl in decls.list.as_slice() {
+        for decl in decls.as_slice() {
             engine.declare(decl)?;
         }
         Ok(engine)

@@ -5,13 +5,13 @@ ghost use Rattle.std.specs.Prelude.{◌≡◌, ◌++◌, OnOk};
 
 use crate::field::{push_stamp_field, push_word};
 use crate::rows::push_pairs;
-use pr_script::{Bytes, Decl, print_text};
+use pr_script::{Bytes, Decls, print_text};
 use pr_stamps::NoMemory;
 use pr_story::{Found, Reply};
 
 /// Adds the answer to a read.
-pub fn push_reply(decls: &[Decl], reply: &Reply, text: &mut Bytes) -> Result<(), NoMemory>
-    ensures { OnOk result (text.new ≡ text.old ++ more 32 (reply_fields decls.now reply.now)) }
+pub fn push_reply(decls: &Decls, reply: &Reply, text: &mut Bytes) -> Result<(), NoMemory>
+    ensures { OnOk result (text.new ≡ text.old ++ more 32 (reply_fields decls.now.list reply.now)) }
 {
     match reply {
         Reply::Never => push_word(b"never", text),
@@ -36,8 +36,8 @@ pub fn push_reply(decls: &[Decl], reply: &Reply, text: &mut Bytes) -> Result<(),
 }
 
 /// Adds the conflicts of a name.
-pub fn push_found(decls: &[Decl], found: &Found, text: &mut Bytes) -> Result<(), NoMemory>
-    ensures { OnOk result (text.new ≡ text.old ++ more 32 (found_fields decls.now found.now)) }
+pub fn push_found(decls: &Decls, found: &Found, text: &mut Bytes) -> Result<(), NoMemory>
+    ensures { OnOk result (text.new ≡ text.old ++ more 32 (found_fields decls.now.list found.now)) }
 {
     match found {
         Found::Pairs(pairs) => {

@@ -8,21 +8,21 @@ use crate::field::{push_at, push_name, push_over};
 use crate::label::{push_about, push_label};
 use pr_inval::WriteRec;
 use pr_names::Name;
-use pr_script::{Bytes, Decl, Kind, print_text};
+use pr_script::{Bytes, Decls, Kind, print_text};
 use pr_stamps::NoMemory;
 use pr_story::Reply;
 use pr_vectors::Vector;
 
 /// A client's write or delete was accepted.
 pub fn push_wrote(
-    decls: &[Decl],
+    decls: &Decls,
     client: u32,
     write: &WriteRec,
     body: &[u8],
     after: &Vector,
     text: &mut Bytes,
 ) -> Result<(), NoMemory>
-    ensures { OnOk result (text.new ≡ text.old ++ sentence decls.now 0 (events.Wrote client write.now body.now after.now)) }
+    ensures { OnOk result (text.new ≡ text.old ++ sentence decls.now.list 0 (events.Wrote client write.now body.now after.now)) }
 {
     push_about(write_word(write.gone), decls, Kind::Client, client, text)?;
     push_name(&write.name, text)?;
@@ -41,14 +41,14 @@ fn write_word(gone: bool) -> &'static [u8]
 
 /// A client's read was answered.
 pub fn push_answered(
-    decls: &[Decl],
+    decls: &Decls,
     client: u32,
     name: &Name,
     reply: &Reply,
     at: &Vector,
     text: &mut Bytes,
 ) -> Result<(), NoMemory>
-    ensures { OnOk result (text.new ≡ text.old ++ sentence decls.now 0 (events.Answered client name.now reply.now at.now)) }
+    ensures { OnOk result (text.new ≡ text.old ++ sentence decls.now.list 0 (events.Answered client name.now reply.now at.now)) }
 {
     push_about(b"read", decls, Kind::Client, client, text)?;
     push_name(name, text)?;
@@ -58,13 +58,13 @@ pub fn push_answered(
 
 /// The client has seen more than its node covers.
 pub fn push_behind(
-    decls: &[Decl],
+    decls: &Decls,
     client: u32,
     needs: &Vector,
     has: &Vector,
     text: &mut Bytes,
 ) -> Result<(), NoMemory>
-    ensures { OnOk result (text.new ≡ text.old ++ sentence decls.now 0 (events.Behind client needs.now has.now)) }
+    ensures { OnOk result (text.new ≡ text.old ++ sentence decls.now.list 0 (events.Behind client needs.now has.now)) }
 {
     push_about(b"behind", decls, Kind::Client, client, text)?;
     push_at(b"needs", decls, needs, text)?;
@@ -72,8 +72,8 @@ pub fn push_behind(
 }
 
 /// The client came to the node.
-pub fn push_moved(decls: &[Decl], node: u32, client: u32, text: &mut Bytes) -> Result<(), NoMemory>
-    ensures { OnOk result (text.new ≡ text.old ++ sentence decls.now node (events.Moved client)) }
+pub fn push_moved(decls: &Decls, node: u32, client: u32, text: &mut Bytes) -> Result<(), NoMemory>
+    ensures { OnOk result (text.new ≡ text.old ++ sentence decls.now.list node (events.Moved client)) }
 {
     push_about(b"move", decls, Kind::Client, client, text)?;
     push_label(decls, Kind::Node, node, text)

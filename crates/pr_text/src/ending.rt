@@ -8,7 +8,7 @@ ghost use Rattle.std.specs.Prelude.{◌≡◌, ◌++◌, OnErr, OnOk, codes};
 
 use crate::label::push_about;
 use crate::stamp::push_number;
-use pr_script::{Bytes, Decl, Decls, Kind, hex_digit};
+use pr_script::{Bytes, Decls, Kind, hex_digit};
 use pr_stamps::NoMemory;
 
 /// Adds `ok N`, for N lines before it. After a refusal of this and the others here a part of the line may stand behind what `out` had.
@@ -65,20 +65,20 @@ pub fn lied(
     ensures ok { OnOk result (out.new ≡ out.old ++ error_line (lied_cause decls.now.list stream number sent.now got.now)) }
     ensures err { OnErr result (Begins out.old out.new) }
 {
-    push_lied(decls.list.as_slice(), stream, number, sent, got, out)?;
+    push_lied(decls, stream, number, sent, got, out)?;
     out.push(b'\n')
 }
 
 // Adds the line without its end.
 fn push_lied(
-    decls: &[Decl],
+    decls: &Decls,
     stream: u32,
     number: u64,
     sent: &[u8],
     got: &[u8],
     out: &mut Bytes,
 ) -> Result<(), NoMemory>
-    ensures ok { OnOk result (out.new ≡ out.old ++ (codes "error " ++ lied_cause decls.now stream number sent.now got.now)) }
+    ensures ok { OnOk result (out.new ≡ out.old ++ (codes "error " ++ lied_cause decls.now.list stream number sent.now got.now)) }
     ensures err { OnErr result (Begins out.old out.new) }
 {
     push_about(b"error lied", decls, Kind::Stream, stream, out)?;

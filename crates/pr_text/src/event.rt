@@ -8,13 +8,13 @@ use crate::stream::{
     push_accepted, push_attached, push_down, push_gapped, push_idle, push_missing, push_sent,
     push_stale,
 };
-use pr_script::{Bytes, Decl, Decls};
+use pr_script::{Bytes, Decls};
 use pr_stamps::{NoMemory, Seq};
 use pr_story::Event;
 use std::alloc::Global;
 
 /// Adds the line of an event at the node; docs/TRANSCRIPT.md has the lines. It takes time linear in the line, and for
-/// each label and each vector in it linear in the declarations. A refusal leaves `out`.
+/// each vector in it linear in the nodes. A refusal leaves `out`.
 pub fn line(
     alloc: Global,
     decls: &Decls,
@@ -26,14 +26,14 @@ pub fn line(
     ensures err { OnErr result (out.new ≡ out.old) }
 {
     let mut text = Seq::new(alloc);
-    push_event(decls.list.as_slice(), node, event, &mut text)?;
+    push_event(decls, node, event, &mut text)?;
     text.push(b'\n')?;
     out.extend(text.as_slice())
 }
 
 // Adds the event's first word and its fields.
-fn push_event(decls: &[Decl], node: u32, event: &Event, text: &mut Bytes) -> Result<(), NoMemory>
-    ensures { OnOk result (text.new ≡ text.old ++ sentence decls.now node event.now) }
+fn push_event(decls: &Decls, node: u32, event: &Event, text: &mut Bytes) -> Result<(), NoMemory>
+    ensures { OnOk result (text.new ≡ text.old ++ sentence decls.now.list node event.now) }
 {
     match event {
         Event::Wrote {

@@ -8,7 +8,7 @@ use crate::stamp::{push_prev, push_stamp};
 use crate::vector::push_vector;
 use pr_inval::WriteRec;
 use pr_names::Name;
-use pr_script::{Bytes, Decl};
+use pr_script::{Bytes, Decls};
 use pr_sets::NameSet;
 use pr_stamps::{NoMemory, Stamp};
 use pr_vectors::Vector;
@@ -37,8 +37,8 @@ pub fn push_set(set: &NameSet, text: &mut Bytes) -> Result<(), NoMemory>
 }
 
 /// Adds a space and the stamp.
-pub fn push_stamp_field(decls: &[Decl], stamp: &Stamp, text: &mut Bytes) -> Result<(), NoMemory>
-    ensures { OnOk result (text.new ≡ text.old ++ 32 ∷ stamp_text decls.now stamp.now) }
+pub fn push_stamp_field(decls: &Decls, stamp: &Stamp, text: &mut Bytes) -> Result<(), NoMemory>
+    ensures { OnOk result (text.new ≡ text.old ++ 32 ∷ stamp_text decls.now.list stamp.now) }
 {
     text.push(b' ')?;
     push_stamp(decls, stamp, text)
@@ -47,11 +47,11 @@ pub fn push_stamp_field(decls: &[Decl], stamp: &Stamp, text: &mut Bytes) -> Resu
 /// Adds the word and the vector, each behind a space.
 pub fn push_at(
     word: &[u8],
-    decls: &[Decl],
+    decls: &Decls,
     vector: &Vector,
     text: &mut Bytes,
 ) -> Result<(), NoMemory>
-    ensures { OnOk result (text.new ≡ text.old ++ 32 ∷ (word.now ++ 32 ∷ vector_text decls.now vector.now)) }
+    ensures { OnOk result (text.new ≡ text.old ++ 32 ∷ (word.now ++ 32 ∷ vector_text decls.now.list vector.now)) }
 {
     push_word(word, text)?;
     text.push(b' ')?;
@@ -59,8 +59,8 @@ pub fn push_at(
 }
 
 /// Adds the write's stamp, and the newest one of its name before it.
-pub fn push_over(decls: &[Decl], write: &WriteRec, text: &mut Bytes) -> Result<(), NoMemory>
-    ensures { OnOk result (text.new ≡ text.old ++ more 32 (stamp_fields decls.now write.now)) }
+pub fn push_over(decls: &Decls, write: &WriteRec, text: &mut Bytes) -> Result<(), NoMemory>
+    ensures { OnOk result (text.new ≡ text.old ++ more 32 (stamp_fields decls.now.list write.now)) }
 {
     push_stamp_field(decls, &write.stamp, text)?;
     text.extend(b" over ")?;
@@ -69,12 +69,12 @@ pub fn push_over(decls: &[Decl], write: &WriteRec, text: &mut Bytes) -> Result<(
 
 /// Adds the vectors where a message starts and ends.
 pub fn push_span(
-    decls: &[Decl],
+    decls: &Decls,
     from: &Vector,
     to: &Vector,
     text: &mut Bytes,
 ) -> Result<(), NoMemory>
-    ensures { OnOk result (text.new ≡ text.old ++ more 32 (span_fields decls.now from.now to.now)) }
+    ensures { OnOk result (text.new ≡ text.old ++ more 32 (span_fields decls.now.list from.now to.now)) }
 {
     push_at(b"from", decls, from, text)?;
     push_at(b"to", decls, to, text)

@@ -13,6 +13,6 @@ pub fn heads(alloc: Global, decls: &Decls, out: &mut Bytes) -> Result<(), NoMemo
     ensures err { OnErr result (out.new ≡ out.old) }
 {
     let mut text = Seq::new(alloc);
-    print_decls(decls.list.as_slice(), &mut text)?;
+    print_decls(decls.as_slice(), &mut text)?;
     out.extend(text.as_slice())
 }

@@ -4,29 +4,29 @@
 ghost use Rattle.pr_script.specs.Printing.{Begins, label_text};
 ghost use Rattle.std.specs.Prelude.{◌≡◌, ◌++◌, ◌∷◌, OnErr, OnOk};
 
-use pr_script::{Bytes, Decl, Kind, label_at};
+use pr_script::{Bytes, Decls, Kind};
 use pr_stamps::NoMemory;
 
 /// Adds the first word and a label.
 pub fn push_about(
     word: &[u8],
-    decls: &[Decl],
+    decls: &Decls,
     kind: Kind,
     number: u32,
     text: &mut Bytes,
 ) -> Result<(), NoMemory>
-    ensures ok { OnOk result (text.new ≡ text.old ++ (word.now ++ 32 ∷ label_text kind decls.now number)) }
+    ensures ok { OnOk result (text.new ≡ text.old ++ (word.now ++ 32 ∷ label_text kind decls.now.list number)) }
     ensures err { OnErr result (Begins text.old text.new) }
 {
     text.extend(word)?;
     push_label(decls, kind, number, text)
 }
 
-/// Adds a space and the label of this number, in time linear in the declarations.
-pub fn push_label(decls: &[Decl], kind: Kind, number: u32, text: &mut Bytes) -> Result<(), NoMemory>
-    ensures ok { OnOk result (text.new ≡ text.old ++ 32 ∷ label_text kind decls.now number) }
+/// Adds a space and the label of this number, in time linear in its bytes.
+pub fn push_label(decls: &Decls, kind: Kind, number: u32, text: &mut Bytes) -> Result<(), NoMemory>
+    ensures ok { OnOk result (text.new ≡ text.old ++ 32 ∷ label_text kind decls.now.list number) }
     ensures err { OnErr result (Begins text.old text.new) }
 {
     text.push(b' ')?;
-    text.extend(label_at(decls, kind, number))
+    text.extend(decls.label(kind, number))
 }

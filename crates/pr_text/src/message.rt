@@ -10,14 +10,14 @@ use crate::field::{
 };
 use crate::rows::push_rows;
 use pr_inval::{Kind, Row, WriteRec};
-use pr_script::{Bytes, Decl, print_text};
+use pr_script::{Bytes, Decls, print_text};
 use pr_sets::NameSet;
 use pr_stamps::NoMemory;
 use pr_vectors::Vector;
 
 /// Adds what the message tells.
-pub fn push_kind(decls: &[Decl], kind: &Kind, text: &mut Bytes) -> Result<(), NoMemory>
-    ensures { OnOk result (text.new ≡ text.old ++ more 32 (kind_fields decls.now kind.now)) }
+pub fn push_kind(decls: &Decls, kind: &Kind, text: &mut Bytes) -> Result<(), NoMemory>
+    ensures { OnOk result (text.new ≡ text.old ++ more 32 (kind_fields decls.now.list kind.now)) }
 {
     match kind {
         Kind::Precise { from, to, write } => push_precise(decls, from, to, write, text),
@@ -38,13 +38,13 @@ pub fn push_kind(decls: &[Decl], kind: &Kind, text: &mut Bytes) -> Result<(), No
 }
 
 fn push_precise(
-    decls: &[Decl],
+    decls: &Decls,
     from: &Vector,
     to: &Vector,
     write: &WriteRec,
     text: &mut Bytes,
 ) -> Result<(), NoMemory>
-    ensures { OnOk result (text.new ≡ text.old ++ more 32 (kind_fields decls.now (messages.Precise from.now to.now write.now))) }
+    ensures { OnOk result (text.new ≡ text.old ++ more 32 (kind_fields decls.now.list (messages.Precise from.now to.now write.now))) }
 {
     push_word(kind_word(write.gone), text)?;
     push_name(&write.name, text)?;
@@ -59,13 +59,13 @@ fn kind_word(gone: bool) -> &'static [u8]
 }
 
 fn push_imprecise(
-    decls: &[Decl],
+    decls: &Decls,
     from: &Vector,
     to: &Vector,
     target: &NameSet,
     text: &mut Bytes,
 ) -> Result<(), NoMemory>
-    ensures { OnOk result (text.new ≡ text.old ++ more 32 (kind_fields decls.now (messages.Imprecise from.now to.now target.now))) }
+    ensures { OnOk result (text.new ≡ text.old ++ more 32 (kind_fields decls.now.list (messages.Imprecise from.now to.now target.now))) }
 {
     push_word(b"imprecise", text)?;
     push_set(target, text)?;
@@ -73,14 +73,14 @@ fn push_imprecise(
 }
 
 fn push_checkpoint(
-    decls: &[Decl],
+    decls: &Decls,
     to: &Vector,
     target: &NameSet,
     floor: &Vector,
     rows: &[Row],
     text: &mut Bytes,
 ) -> Result<(), NoMemory>
-    ensures { OnOk result (text.new ≡ text.old ++ more 32 (kind_fields decls.now (messages.Checkpoint to.now target.now floor.now rows.now))) }
+    ensures { OnOk result (text.new ≡ text.old ++ more 32 (kind_fields decls.now.list (messages.Checkpoint to.now target.now floor.now rows.now))) }
 {
     push_word(b"checkpoint", text)?;
     push_set(target, text)?;

@@ -9,27 +9,22 @@ use crate::field::{push_at, push_name, push_word};
 use crate::label::push_about;
 use crate::vector::push_vector;
 use pr_names::Name;
-use pr_script::{Bytes, Decl, Kind};
+use pr_script::{Bytes, Decls, Kind};
 use pr_stamps::NoMemory;
 use pr_story::Found;
 use pr_vectors::Vector;
 
 /// The node's log was truncated.
-pub fn push_cut(decls: &[Decl], node: u32, at: &Vector, text: &mut Bytes) -> Result<(), NoMemory>
-    ensures { OnOk result (text.new ≡ text.old ++ sentence decls.now node (events.Cut at.now)) }
+pub fn push_cut(decls: &Decls, node: u32, at: &Vector, text: &mut Bytes) -> Result<(), NoMemory>
+    ensures { OnOk result (text.new ≡ text.old ++ sentence decls.now.list node (events.Cut at.now)) }
 {
     push_about(b"cut", decls, Kind::Node, node, text)?;
     push_at(b"at", decls, at, text)
 }
 
 /// The node dropped its bodies of the name.
-pub fn push_dropped(
-    decls: &[Decl],
-    node: u32,
-    name: &Name,
-    text: &mut Bytes,
-) -> Result<(), NoMemory>
-    ensures { OnOk result (text.new ≡ text.old ++ sentence decls.now node (events.Dropped name.now)) }
+pub fn push_dropped(decls: &Decls, node: u32, name: &Name, text: &mut Bytes) -> Result<(), NoMemory>
+    ensures { OnOk result (text.new ≡ text.old ++ sentence decls.now.list node (events.Dropped name.now)) }
 {
     push_about(b"drop", decls, Kind::Node, node, text)?;
     push_name(name, text)
@@ -37,13 +32,13 @@ pub fn push_dropped(
 
 /// The node's conflicts of the name.
 pub fn push_conflicts(
-    decls: &[Decl],
+    decls: &Decls,
     node: u32,
     name: &Name,
     found: &Found,
     text: &mut Bytes,
 ) -> Result<(), NoMemory>
-    ensures { OnOk result (text.new ≡ text.old ++ sentence decls.now node (events.Conflicts name.now found.now)) }
+    ensures { OnOk result (text.new ≡ text.old ++ sentence decls.now.list node (events.Conflicts name.now found.now)) }
 {
     push_about(b"conflicts", decls, Kind::Node, node, text)?;
     push_name(name, text)?;
@@ -52,7 +47,7 @@ pub fn push_conflicts(
 
 /// The node's vectors.
 pub fn push_state(
-    decls: &[Decl],
+    decls: &Decls,
     node: u32,
     at: &Vector,
     cut: &Vector,
@@ -60,7 +55,7 @@ pub fn push_state(
     precise: &[Vector],
     text: &mut Bytes,
 ) -> Result<(), NoMemory>
-    ensures { OnOk result (text.new ≡ text.old ++ sentence decls.now node (events.State at.now cut.now floor.now precise.now)) }
+    ensures { OnOk result (text.new ≡ text.old ++ sentence decls.now.list node (events.State at.now cut.now floor.now precise.now)) }
 {
     push_about(b"state", decls, Kind::Node, node, text)?;
     push_at(b"at", decls, at, text)?;
@@ -70,8 +65,8 @@ pub fn push_state(
     push_vectors(decls, precise, text)
 }
 
-fn push_vectors(decls: &[Decl], vectors: &[Vector], text: &mut Bytes) -> Result<(), NoMemory>
-    ensures { OnOk result (text.new ≡ text.old ++ more 32 (map (vector_text decls.now) vectors.now)) }
+fn push_vectors(decls: &Decls, vectors: &[Vector], text: &mut Bytes) -> Result<(), NoMemory>
+    ensures { OnOk result (text.new ≡ text.old ++ more 32 (map (vector_text decls.now.list) vectors.now)) }
 {
     for vector in vectors {
         text.push(b' ')?;

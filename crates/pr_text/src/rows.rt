@@ -4,12 +4,12 @@ ghost use Rattle.std.specs.Prelude.{◌≡◌, ◌++◌, ◌∷◌, OnOk, map};
 
 use crate::stamp::{push_prev, push_stamp};
 use pr_inval::Row;
-use pr_script::{Bytes, Decl};
+use pr_script::{Bytes, Decls};
 use pr_stamps::{Mark, NoMemory, Stamp};
 
 /// Adds the rows, joined by commas, or a hyphen for none.
-pub fn push_rows(decls: &[Decl], rows: &[Row], text: &mut Bytes) -> Result<(), NoMemory>
-    ensures { OnOk result (text.new ≡ text.old ++ rows_text decls.now rows.now) }
+pub fn push_rows(decls: &Decls, rows: &[Row], text: &mut Bytes) -> Result<(), NoMemory>
+    ensures { OnOk result (text.new ≡ text.old ++ rows_text decls.now.list rows.now) }
 {
     if rows.is_empty() {
         return text.push(b'-');
@@ -22,12 +22,8 @@ pub fn push_rows(decls: &[Decl], rows: &[Row], text: &mut Bytes) -> Result<(), N
 }
 
 /// Adds the pairs, joined by commas, or a hyphen for none.
-pub fn push_pairs(
-    decls: &[Decl],
-    pairs: &[(Stamp, Stamp)],
-    text: &mut Bytes,
-) -> Result<(), NoMemory>
-    ensures { OnOk result (text.new ≡ text.old ++ pairs_text decls.now pairs.now) }
+pub fn push_pairs(decls: &Decls, pairs: &[(Stamp, Stamp)], text: &mut Bytes) -> Result<(), NoMemory>
+    ensures { OnOk result (text.new ≡ text.old ++ pairs_text decls.now.list pairs.now) }
 {
     if pairs.is_empty() {
         return text.push(b'-');
@@ -39,8 +35,8 @@ pub fn push_pairs(
     Ok(())
 }
 
-fn push_row(decls: &[Decl], row: &Row, text: &mut Bytes) -> Result<(), NoMemory>
-    ensures { OnOk result (text.new ≡ text.old ++ row_text decls.now row.now) }
+fn push_row(decls: &Decls, row: &Row, text: &mut Bytes) -> Result<(), NoMemory>
+    ensures { OnOk result (text.new ≡ text.old ++ row_text decls.now.list row.now) }
 {
     text.extend(row.name.bytes())?;
     text.push(if row.gone { b'!' } else { b'=' })?;
@@ -50,8 +46,8 @@ fn push_row(decls: &[Decl], row: &Row, text: &mut Bytes) -> Result<(), NoMemory>
     text.push(b')')
 }
 
-fn push_marks(decls: &[Decl], marks: &[Mark], text: &mut Bytes) -> Result<(), NoMemory>
-    ensures { OnOk result (text.new ≡ text.old ++ joined 59 (map (mark_text decls.now) marks.now)) }
+fn push_marks(decls: &Decls, marks: &[Mark], text: &mut Bytes) -> Result<(), NoMemory>
+    ensures { OnOk result (text.new ≡ text.old ++ joined 59 (map (mark_text decls.now.list) marks.now)) }
 {
     for (index, mark) in marks.iter().enumerate() {
         push_between(index, b';', text)?;
@@ -60,16 +56,16 @@ fn push_marks(decls: &[Decl], marks: &[Mark], text: &mut Bytes) -> Result<(), No
     Ok(())
 }
 
-fn push_mark(decls: &[Decl], mark: &Mark, text: &mut Bytes) -> Result<(), NoMemory>
-    ensures { OnOk result (text.new ≡ text.old ++ mark_text decls.now mark.now) }
+fn push_mark(decls: &Decls, mark: &Mark, text: &mut Bytes) -> Result<(), NoMemory>
+    ensures { OnOk result (text.new ≡ text.old ++ mark_text decls.now.list mark.now) }
 {
     push_stamp(decls, &mark.stamp, text)?;
     text.push(b'<')?;
     push_prev(decls, &mark.prev, text)
 }
 
-fn push_pair(decls: &[Decl], pair: &(Stamp, Stamp), text: &mut Bytes) -> Result<(), NoMemory>
-    ensures { OnOk result (text.new ≡ text.old ++ pair_text decls.now pair.now) }
+fn push_pair(decls: &Decls, pair: &(Stamp, Stamp), text: &mut Bytes) -> Result<(), NoMemory>
+    ensures { OnOk result (text.new ≡ text.old ++ pair_text decls.now.list pair.now) }
 {
     push_stamp(decls, &pair.0, text)?;
     text.push(b'|')?;

@@ -6,7 +6,7 @@ ghost use Rattle.pr_text.specs.Texts.{prev_text, stamp_text};
 ghost use Rattle.std.specs.Prelude.{◌≡◌, ◌++◌, ◌∷◌, OnErr, OnOk, decimal};
 
 use itoa::Buffer;
-use pr_script::{Bytes, Decl, Kind, label_at};
+use pr_script::{Bytes, Decls, Kind};
 use pr_stamps::{NoMemory, Stamp};
 
 /// Adds a space and the digits of the number.
@@ -26,18 +26,18 @@ pub fn push_digits(number: u64, text: &mut Bytes) -> Result<(), NoMemory>
     text.extend(buffer.format(number).as_bytes())
 }
 
-/// Adds CLOCK@LABEL.
-pub fn push_stamp(decls: &[Decl], stamp: &Stamp, text: &mut Bytes) -> Result<(), NoMemory>
-    ensures { OnOk result (text.new ≡ text.old ++ stamp_text decls.now stamp.now) }
+/// Adds CLOCK@LABEL, in time linear in its bytes.
+pub fn push_stamp(decls: &Decls, stamp: &Stamp, text: &mut Bytes) -> Result<(), NoMemory>
+    ensures { OnOk result (text.new ≡ text.old ++ stamp_text decls.now.list stamp.now) }
 {
     push_digits(stamp.clock(), text)?;
     text.push(b'@')?;
-    text.extend(label_at(decls, Kind::Node, stamp.node()))
+    text.extend(decls.label(Kind::Node, stamp.node()))
 }
 
 /// Adds the stamp, or a hyphen for none.
-pub fn push_prev(decls: &[Decl], prev: &Option<Stamp>, text: &mut Bytes) -> Result<(), NoMemory>
-    ensures { OnOk result (text.new ≡ text.old ++ prev_text decls.now prev.now) }
+pub fn push_prev(decls: &Decls, prev: &Option<Stamp>, text: &mut Bytes) -> Result<(), NoMemory>
+    ensures { OnOk result (text.new ≡ text.old ++ prev_text decls.now.list prev.now) }
 {
     match prev {
         Some(stamp) => push_stamp(decls, stamp, text),

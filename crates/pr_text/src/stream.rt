@@ -10,47 +10,47 @@ use crate::label::push_about;
 use crate::message::{push_kind, start_of};
 use crate::stamp::push_number;
 use pr_inval::Msg;
-use pr_script::{Bytes, Decl, Kind};
+use pr_script::{Bytes, Decls, Kind};
 use pr_stamps::NoMemory;
 use pr_story::Cause;
 use pr_vectors::Vector;
 
 /// The stream began, or began again.
 pub fn push_attached(
-    decls: &[Decl],
+    decls: &Decls,
     stream: u32,
     at: &Vector,
     text: &mut Bytes,
 ) -> Result<(), NoMemory>
-    ensures { OnOk result (text.new ≡ text.old ++ sentence decls.now 0 (events.Attached stream at.now)) }
+    ensures { OnOk result (text.new ≡ text.old ++ sentence decls.now.list 0 (events.Attached stream at.now)) }
 {
     push_stream(b"attach", decls, stream, text)?;
     push_at(b"at", decls, at, text)
 }
 
 /// The source sent a message.
-pub fn push_sent(decls: &[Decl], msg: &Msg, text: &mut Bytes) -> Result<(), NoMemory>
-    ensures { OnOk result (text.new ≡ text.old ++ sentence decls.now 0 (events.Sent msg.now)) }
+pub fn push_sent(decls: &Decls, msg: &Msg, text: &mut Bytes) -> Result<(), NoMemory>
+    ensures { OnOk result (text.new ≡ text.old ++ sentence decls.now.list 0 (events.Sent msg.now)) }
 {
     push_message(b"send", decls, msg, text)?;
     push_kind(decls, &msg.kind, text)
 }
 
 /// The source had nothing to send.
-pub fn push_idle(decls: &[Decl], stream: u32, text: &mut Bytes) -> Result<(), NoMemory>
-    ensures { OnOk result (text.new ≡ text.old ++ sentence decls.now 0 (events.Idle stream)) }
+pub fn push_idle(decls: &Decls, stream: u32, text: &mut Bytes) -> Result<(), NoMemory>
+    ensures { OnOk result (text.new ≡ text.old ++ sentence decls.now.list 0 (events.Idle stream)) }
 {
     push_stream(b"idle", decls, stream, text)
 }
 
 /// The stream lies behind the source's cut.
 pub fn push_stale(
-    decls: &[Decl],
+    decls: &Decls,
     stream: u32,
     cut: &Vector,
     text: &mut Bytes,
 ) -> Result<(), NoMemory>
-    ensures { OnOk result (text.new ≡ text.old ++ sentence decls.now 0 (events.Stale stream cut.now)) }
+    ensures { OnOk result (text.new ≡ text.old ++ sentence decls.now.list 0 (events.Stale stream cut.now)) }
 {
     push_stream(b"stale", decls, stream, text)?;
     push_at(b"cut", decls, cut, text)
@@ -58,25 +58,20 @@ pub fn push_stale(
 
 /// The destination took a message.
 pub fn push_accepted(
-    decls: &[Decl],
+    decls: &Decls,
     msg: &Msg,
     at: &Vector,
     text: &mut Bytes,
 ) -> Result<(), NoMemory>
-    ensures { OnOk result (text.new ≡ text.old ++ sentence decls.now 0 (events.Accepted msg.now at.now)) }
+    ensures { OnOk result (text.new ≡ text.old ++ sentence decls.now.list 0 (events.Accepted msg.now at.now)) }
 {
     push_message(b"accept", decls, msg, text)?;
     push_at(b"at", decls, at, text)
 }
 
 /// The destination lacks what comes before a message.
-pub fn push_gapped(
-    decls: &[Decl],
-    msg: &Msg,
-    has: &Vector,
-    text: &mut Bytes,
-) -> Result<(), NoMemory>
-    ensures { OnOk result (text.new ≡ text.old ++ sentence decls.now 0 (events.Gapped msg.now has.now)) }
+pub fn push_gapped(decls: &Decls, msg: &Msg, has: &Vector, text: &mut Bytes) -> Result<(), NoMemory>
+    ensures { OnOk result (text.new ≡ text.old ++ sentence decls.now.list 0 (events.Gapped msg.now has.now)) }
 {
     push_message(b"gap", decls, msg, text)?;
     push_at(b"needs", decls, &start_of(&msg.kind), text)?;
@@ -85,12 +80,12 @@ pub fn push_gapped(
 
 /// No message of this number was sent.
 pub fn push_missing(
-    decls: &[Decl],
+    decls: &Decls,
     stream: u32,
     number: u64,
     text: &mut Bytes,
 ) -> Result<(), NoMemory>
-    ensures { OnOk result (text.new ≡ text.old ++ sentence decls.now 0 (events.Missing stream number)) }
+    ensures { OnOk result (text.new ≡ text.old ++ sentence decls.now.list 0 (events.Missing stream number)) }
 {
     push_stream(b"missing", decls, stream, text)?;
     push_number(number, text)
@@ -98,27 +93,27 @@ pub fn push_missing(
 
 /// A flow ended before its turns were done.
 pub fn push_down(
-    decls: &[Decl],
+    decls: &Decls,
     stream: u32,
     cause: &Cause,
     text: &mut Bytes,
 ) -> Result<(), NoMemory>
-    ensures { OnOk result (text.new ≡ text.old ++ sentence decls.now 0 (events.Down stream cause.now)) }
+    ensures { OnOk result (text.new ≡ text.old ++ sentence decls.now.list 0 (events.Down stream cause.now)) }
 {
     push_stream(b"down", decls, stream, text)?;
     push_cause(cause, text)
 }
 
 // Adds the first word and the stream.
-fn push_stream(word: &[u8], decls: &[Decl], stream: u32, text: &mut Bytes) -> Result<(), NoMemory>
-    ensures { OnOk result (text.new ≡ text.old ++ (word.now ++ 32 ∷ label_text kinds.Stream decls.now stream)) }
+fn push_stream(word: &[u8], decls: &Decls, stream: u32, text: &mut Bytes) -> Result<(), NoMemory>
+    ensures { OnOk result (text.new ≡ text.old ++ (word.now ++ 32 ∷ label_text kinds.Stream decls.now.list stream)) }
 {
     push_about(word, decls, Kind::Stream, stream, text)
 }
 
 // Adds the first word, the message's stream and its number.
-fn push_message(word: &[u8], decls: &[Decl], msg: &Msg, text: &mut Bytes) -> Result<(), NoMemory>
-    ensures { OnOk result (text.new ≡ text.old ++ (word.now ++ 32 ∷ (label_text kinds.Stream decls.now msg.now.stream ++ 32 ∷ decimal msg.now.number))) }
+fn push_message(word: &[u8], decls: &Decls, msg: &Msg, text: &mut Bytes) -> Result<(), NoMemory>
+    ensures { OnOk result (text.new ≡ text.old ++ (word.now ++ 32 ∷ (label_text kinds.Stream decls.now.list msg.now.stream ++ 32 ∷ decimal msg.now.number))) }
 {
     push_stream(word, decls, msg.stream, text)?;
     push_number(msg.number, text)

@@ -1,30 +1,34 @@
 // Vectors.
 ghost use Rattle.pr_vectors.specs.Vector.{clock_of};
-ghost use Rattle.pr_text.specs.Texts.{vector_text};
+ghost use Rattle.pr_text.specs.Texts.{clocks, listed, vector_text};
 ghost use Rattle.std.specs.Prelude.{◌≡◌, ◌++◌, ◌∷◌, [], OnOk, decimal, cond};
 
 use crate::stamp::push_digits;
-use pr_script::{Bytes, Decl, Kind, is_kind, label_of};
+use pr_script::{Bytes, Decls, Kind};
 use pr_stamps::NoMemory;
 use pr_vectors::Vector;
 
 /// Adds LABEL:CLOCK for each node that has a clock, joined by commas, or a hyphen for the zero vector, in one pass over
-/// the declarations.
-#[tactic(auto, unfolding(pr_script::specs::Labels::labels_of))]
-pub fn push_vector(decls: &[Decl], vector: &Vector, text: &mut Bytes) -> Result<(), NoMemory>
-    ensures { OnOk result (text.new ≡ text.old ++ vector_text decls.now vector.now) }
+/// the nodes.
+pub fn push_vector(decls: &Decls, vector: &Vector, text: &mut Bytes) -> Result<(), NoMemory>
+    ensures { OnOk result (text.new ≡ text.old ++ vector_text decls.now.list vector.now) }
+{
+    push_clocks(decls.labels(Kind::Node), vector, text)
+}
+
+// Adds the vector over these nodes' labels.
+fn push_clocks(labels: &[Bytes], vector: &Vector, text: &mut Bytes) -> Result<(), NoMemory>
+    ensures { OnOk result (text.new ≡ text.old ++ listed (clocks labels.now 0 vector.now)) }
 {
     let mut node = 0usize;
     let mut some = false;
-    for decl in decls {
-        if is_kind(Kind::Node, decl) {
-            let clock = clock_at(vector, node);
-            if clock > 0 {
-                push_clock(some, label_of(decl), clock, text)?;
-                some = true;
-            }
-            node += 1;
+    for label in labels {
+        let clock = clock_at(vector, node);
+        if clock > 0 {
+            push_clock(some, label.as_slice(), clock, text)?;
+            some = true;
         }
+        node += 1;
     }
     push_hyphen(some, text)
 }

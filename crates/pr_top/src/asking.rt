@@ -22,7 +22,7 @@ pub fn ask<S: Source, K: Sink>(alloc: Global, label: &[u8], script: &mut S, out:
     ensures { AnswersAsk label.now (ports_of S.left S.faults K.text K.faults script.old out.old) (ports_of S.left S.faults K.text K.faults script.new out.new) result }
 {
     match read_script(alloc, script) {
-        Ok(script) => match number_of(script.decls.list.as_slice(), label) {
+        Ok(script) => match number_of(script.decls.as_slice(), label) {
             Some(node) => write_asks(alloc, &script, node, out),
             None => Status::NoNode,
         },
@@ -56,7 +56,7 @@ fn asks(alloc: Global, script: &Script, node: u32) -> Result<Bytes, Halt>
     ensures { HasAsks script.now node result }
 {
     let run = run_silently(alloc, script)?;
-    let decls = script.decls.list.as_slice();
+    let decls = script.decls.as_slice();
     let Some(journal) = run.engine.journal(node) else {
         unreachable!()
     };

@@ -123,7 +123,7 @@ fn run_kept<D: Disk, K: Sink>(
         }
         Err(Break::Halted(halt)) => halted(alloc, &script.decls, halt, out),
         Err(Break::Stopped { told, unmet }) => {
-            let heads = script.decls.list.as_slice().len() as u64;
+            let heads = script.decls.as_slice().len() as u64;
             let lines = heads.saturating_add(told as u64);
             KeptEnd::Stopped { lines, unmet }
         }

@@ -93,7 +93,7 @@ fn tell_held<K: Sink>(
     ensures told { (h : List NodeEntry) (told : ℕ) → CanResume script.now.decls.list h → StandsFor (state_of disk).synced (placed (reverse h)) → told ≤ length h → lines ≡ length script.now.decls.list + told → TellsHeld script.now.decls.list h told unmet (HasRisen (K.faults out.old) (K.faults out.new)) (K.text out.old) (K.text out.new) result }
     ensures rises { K.faults out.old ≤ K.faults out.new }
 {
-    let decls = script.decls.list.as_slice();
+    let decls = script.decls.as_slice();
     let told = lines as usize - decls.len();
     let (mut keep, entries) = reopened(alloc, disk)?;
     tell_placed(alloc, &script.decls, &entries.as_slice()[told..], out)?;

@@ -39,7 +39,7 @@ pub fn pull<S: Source, K: Sink>(alloc: Global, label: &[u8], source: &mut S, out
     ensures { AnswersPull label.now (ports_of S.left S.faults K.text K.faults source.old out.old) (ports_of S.left S.faults K.text K.faults source.new out.new) result }
 {
     match read_front(alloc, source) {
-        Ok(front) => match number_of(front.script.decls.list.as_slice(), label) {
+        Ok(front) => match number_of(front.script.decls.as_slice(), label) {
             Some(node) => pull_front(alloc, &front, node, source, out),
             None => tell(out, Status::NoNode, b"error no node\n"),
         },
@@ -87,7 +87,7 @@ fn pull_behind<S: Source, K: Sink>(
     ensures { (h : List NodeEntry) (before : Option (List ℕ)) (risen : ℕ) → HasCome JobAfterJob front.now.script [] h run.engine run.unmet → Appends before (K.text out.old) (told_text front.now.script h) → risen ≤ K.faults out.old → HasPulled result front.now.script number (prepend_known front.now.ahead (S.left source.old)) (S.faults source.old) (S.left source.new) (S.faults source.new) (HasRisen risen (K.faults out.new)) before (K.text out.new) }
 {
     let decls = &front.script.decls;
-    let lines = decls.list.as_slice().len() + run.engine.history().len();
+    let lines = decls.as_slice().len() + run.engine.history().len();
     let mut node = node_of(run, number);
     let from = node.journal().len();
     let end = take_in(alloc, front, number, &mut node, source);
@@ -113,7 +113,7 @@ fn take_in<S: Source>(
     ensures so { PullsFrom front.now.script number (prepend_known front.now.ahead (S.left source.old)) (S.faults source.old) (S.left source.new) (S.faults source.new) (means node.old) (means node.new) result }
     ensures rises { S.faults source.old ≤ S.faults source.new }
 {
-    let decls = front.script.decls.list.as_slice();
+    let decls = front.script.decls.as_slice();
     match streams_to(alloc, decls, number) {
         Ok(streams) => {
             let nodes = node_count(decls);

@@ -63,7 +63,7 @@ fn stated(alloc: Global, decls: &Decls, number: u32, entries: Journal) -> Result
     requires held { (h : List NodeEntry) × CanResume decls.now.list h × IsJournalOf h number entries.items }
     ensures { (h : List NodeEntry) → CanResume decls.now.list h → IsJournalOf h number entries.items → IfOk result (λ node. AddsAlone (node_after (plan_of decls.now.list) h number) (means node) 0 (λ e. IsStateEvent e.event)) }
 {
-    let sets = copied_sets(alloc, sets_at(decls.list.as_slice(), number))?;
+    let sets = copied_sets(alloc, sets_at(decls.as_slice(), number))?;
     let mut node = Node::rebuild(alloc, number, sets, entries)?;
     match node.state(CALLER) {
         Ok(()) => Ok(node),

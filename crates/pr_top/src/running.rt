@@ -227,7 +227,7 @@ pub fn end<K: Sink>(
     ensures kept { result ≡ Err halts.NoMemory → K.text out.new ≡ K.text out.old }
     ensures rises { K.faults out.old ≤ K.faults out.new }
 {
-    let lines = script.decls.list.as_slice().len() + run.engine.history().len();
+    let lines = script.decls.as_slice().len() + run.engine.history().len();
     close(alloc, lines, run.unmet, out)
 }
 

@@ -9,4 +9,4 @@ use Rattle.pr_gen.proofs.summing.push_vectors.Given as goal
 abbrev pub invariant-loop-node : goal.invariant-loop-node
 invariant-loop-node g l =
     (h : List NodeEntry) → HasHistory g.H.Node.Journaled.journal h (g.H.Held.state l.held)
-    → l.out ≡ l.initial.out ++ flat_map (vector_line l.decls h) (range_with_len 0 l.node)
+    → l.out ≡ l.initial.out ++ flat_map (vector_line l.decls.list h) (range_with_len 0 l.node)

@@ -3,4 +3,4 @@ use Rattle.pr_gen.specs.Topology.{each, back}
 use Rattle.pr_gen.proofs.topology.streams_back.Given as goal
 
 abbrev pub invariant-loop-i : goal.invariant-loop-i
-invariant-loop-i l = l.list ≡ l.fn.list ++ each l.i back
+invariant-loop-i l = l.decls.list ≡ l.fn.decls.list ++ each l.i back

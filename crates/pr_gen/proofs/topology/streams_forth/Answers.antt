@@ -4,7 +4,7 @@ use Rattle.pr_gen.proofs.Each.{none_added, one_added}
 use Rattle.pr_gen.proofs.topology.streams_forth.Goals as goal
 
 pub loop-i-init : goal.loop-i-init
-loop-i-init c = none_added forth c.args.list.now
+loop-i-init c = none_added forth c.args.decls.now.list
 
 pub loop-i-preserved : goal.loop-i-preserved
 loop-i-preserved c = c.in_ok-push.ensures.ok ∙ one_added forth c.loop-i.i _ _ _ c.loop-i.invariant c.in_ok-forth.ensures

@@ -3,4 +3,4 @@ use Rattle.pr_gen.specs.Topology.{each, forth}
 use Rattle.pr_gen.proofs.topology.streams_forth.Given as goal
 
 abbrev pub invariant-loop-i : goal.invariant-loop-i
-invariant-loop-i l = l.list ≡ l.fn.list ++ each l.i forth
+invariant-loop-i l = l.decls.list ≡ l.fn.decls.list ++ each l.i forth

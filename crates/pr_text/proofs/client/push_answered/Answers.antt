@@ -10,8 +10,8 @@ pub returns : goal.returns
 returns c =
     let r = c.push_at.result in
     let t = c.push_at.new.text in
-    let reply = reply_fields c.args.decls.now c.args.reply.now in
-    let vector = vector_text c.args.decls.now c.args.at.now in
+    let reply = reply_fields c.args.decls.now.list c.args.reply.now in
+    let vector = vector_text c.args.decls.now.list c.args.at.now in
     let at : OnOk r (t ≡ c.push_reply.new.text ++ more 32 (codes "at" ∷ vector ∷ [])) =
     subst (λ (k : List ℕ). OnOk r (t ≡ c.push_reply.new.text ++ 32 ∷ (codes "at" ++ 32 ∷ k))) (sym (append-nil vector)) c.push_at.ensures in
     let answer : OnOk r (t ≡ c.push_name.new.text ++ more 32 (reply ++ codes "at" ∷ vector ∷ [])) =

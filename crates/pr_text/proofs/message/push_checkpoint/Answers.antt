@@ -9,8 +9,8 @@ pub returns : goal.returns
 returns c =
     let r = c.push_rows.result in
     let t = c.push_rows.new.text in
-    let rows : OnOk r (t ≡ c.extend.new.self ++ (rows_text c.args.decls.now c.args.rows.now ++ [])) =
-    subst (λ (k : List ℕ). OnOk r (t ≡ c.extend.new.self ++ k)) (sym (append-nil (rows_text c.args.decls.now c.args.rows.now))) c.push_rows.ensures in
+    let rows : OnOk r (t ≡ c.extend.new.self ++ (rows_text c.args.decls.now.list c.args.rows.now ++ [])) =
+    subst (λ (k : List ℕ). OnOk r (t ≡ c.extend.new.self ++ k)) (sym (append-nil (rows_text c.args.decls.now.list c.args.rows.now))) c.push_rows.ensures in
     on_front r t c.push_word.new.text c.args.text.now _ _ c.in_ok-push_word.ensures
     (on_front r t c.push_set.new.text c.push_word.new.text _ _ c.in_ok-push_set.ensures
     (on_front r t c.push_at.new.text c.push_set.new.text _ _ c.in_ok-push_at.ensures

@@ -8,9 +8,9 @@ loop-index-init c = refl
 
 pub loop-index-preserved : goal.loop-index-preserved
 loop-index-preserved c =
-    turn (mark_text c.args.decls.now) 59 c.loop-index.index c.args.marks.now c.index-marks-index.result
+    turn (mark_text c.args.decls.now.list) 59 c.loop-index.index c.args.marks.now c.index-marks-index.result
     c.loop-index.text c.push_between.new.text c.push_mark.new.text _
     (omega arith) c.index-marks-index.is c.in_ok-push_between.ensures c.in_ok-push_mark.ensures c.loop-index.invariant
 
 pub returns : goal.returns
-returns c = ended (mark_text c.args.decls.now) 59 c.loop-index.index c.args.marks.now c.loop-index.text _ c.loop-index-test.false c.loop-index.invariant
+returns c = ended (mark_text c.args.decls.now.list) 59 c.loop-index.index c.args.marks.now c.loop-index.text _ c.loop-index-test.false c.loop-index.invariant

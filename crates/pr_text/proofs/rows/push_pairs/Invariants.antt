@@ -5,4 +5,4 @@ use Rattle.pr_text.proofs.rows.push_pairs.Given as goal
 
 -- what is written, then what is still to be written, is all
 abbrev pub invariant-loop-index : goal.invariant-loop-index
-invariant-loop-index l = l.text ++ behind l.index 44 (map (pair_text l.fn.decls) (drop l.index l.fn.pairs)) ≡ l.fn.text ++ joined 44 (map (pair_text l.fn.decls) l.fn.pairs)
+invariant-loop-index l = l.text ++ behind l.index 44 (map (pair_text l.fn.decls.list) (drop l.index l.fn.pairs)) ≡ l.fn.text ++ joined 44 (map (pair_text l.fn.decls.list) l.fn.pairs)
