@@ -72,7 +72,7 @@ pub fn is_printed(
     ensures { IfOk result (λ is. is ≡ bytes_eq (sentence decls.now.list node event.now) line.now) }
 {
     let mut text = Seq::new(alloc);
-    print_line(alloc, decls, node, event, &mut text)?;
+    print_line(decls, node, event, &mut text)?;
     text.truncate(text.len() - 1);
     Ok(text.as_slice() == line)
 }

@@ -1,6 +1,6 @@
 // The line of an event.
 ghost use Rattle.pr_text.specs.Lines.{line_text, sentence};
-ghost use Rattle.std.specs.Prelude.{◌≡◌, ◌++◌, OnErr, OnOk};
+ghost use Rattle.std.specs.Prelude.{◌≡◌, ◌++◌, [], OnErr, OnOk};
 
 use crate::client::{push_answered, push_behind, push_moved, push_wrote};
 use crate::node::{push_conflicts, push_cut, push_dropped, push_state};
@@ -9,26 +9,32 @@ use crate::stream::{
     push_stale,
 };
 use pr_script::{Bytes, Decls};
-use pr_stamps::{NoMemory, Seq};
+use pr_stamps::NoMemory;
 use pr_story::Event;
-use std::alloc::Global;
 
-/// Adds the line of an event at the node; docs/TRANSCRIPT.md has the lines. It takes time linear in the line, and for
-/// each vector in it linear in the nodes. A refusal leaves `out`.
-pub fn line(
-    alloc: Global,
-    decls: &Decls,
-    node: u32,
-    event: &Event,
-    out: &mut Bytes,
-) -> Result<(), NoMemory>
-    ensures ok { OnOk result (out.new ≡ out.old ++ line_text decls.now.list node event.now) }
-    ensures err { OnErr result (out.new ≡ out.old) }
+/// Makes the line of an event at the node in place of what `line` had; docs/TRANSCRIPT.md has the lines. It takes time
+/// linear in the line and in what `line` had, and for each vector in it linear in the nodes, and memory only where the
+/// line needs more room than the list has. A refusal leaves it empty.
+pub fn line(decls: &Decls, node: u32, event: &Event, line: &mut Bytes) -> Result<(), NoMemory>
+    ensures ok { OnOk result (line.new ≡ line_text decls.now.list node event.now) }
+    ensures err { OnErr result (line.new ≡ []) }
 {
-    let mut text = Seq::new(alloc);
-    push_event(decls, node, event, &mut text)?;
-    text.push(b'\n')?;
-    out.extend(text.as_slice())
+    match make_line(decls, node, event, line) {
+        Ok(()) => Ok(()),
+        Err(_) => {
+            line.truncate(0);
+            Err(NoMemory)
+        }
+    }
+}
+
+// Makes the event's line in place of what `text` had. A refusal leaves a part of it.
+fn make_line(decls: &Decls, node: u32, event: &Event, text: &mut Bytes) -> Result<(), NoMemory>
+    ensures { OnOk result (text.new ≡ line_text decls.now.list node event.now) }
+{
+    text.truncate(0);
+    push_event(decls, node, event, text)?;
+    text.push(b'\n')
 }
 
 // Adds the event's first word and its fields.

@@ -22,17 +22,17 @@ fn decls(alloc: Global) -> Option<Decls> {
     }
 }
 
-// Whether the event at B has this line, behind what was there.
+// Whether the event at B has this line, in place of what was there.
 fn says(alloc: Global, decls: &Decls, event: Option<Event>, text: &[u8]) -> bool {
     match (event, bytes(alloc, b"before\n")) {
-        (Some(event), Some(out)) => adds(alloc, decls, &event, out, text),
+        (Some(event), Some(out)) => makes(decls, &event, out, text),
         _ => false,
     }
 }
 
-fn adds(alloc: Global, decls: &Decls, event: &Event, mut out: Bytes, text: &[u8]) -> bool {
-    match line(alloc, decls, 1, event, &mut out) {
-        Ok(()) => out.as_slice().strip_prefix(b"before\n") == Some(text),
+fn makes(decls: &Decls, event: &Event, mut out: Bytes, text: &[u8]) -> bool {
+    match line(decls, 1, event, &mut out) {
+        Ok(()) => out.as_slice() == text,
         Err(_) => false,
     }
 }

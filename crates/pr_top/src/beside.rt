@@ -18,6 +18,7 @@ use crate::stepping::{Halt, Run, went};
 use pr_crew::{Gate, phase};
 use pr_ports::Sink;
 use pr_script::{Command, Script, phase_len};
+use pr_stamps::Seq;
 use pr_wires::Wires;
 use std::alloc::Global;
 use std::sync::Wait;
@@ -81,11 +82,12 @@ impl<'a, R: Threads + Wait + Sync, G: Gate> Beside<'a, R, G> {
         ensures rises { K.faults out.old ≤ K.faults out.new }
     {
         let list = script.commands.as_slice();
+        let mut text = Seq::new(self.alloc);
         let mut told = 0;
         let mut at = 0;
         while at < list.len() {
             let step = self.step(run, &list[at], &list[at + 1..], wires);
-            told = tell_from(self.alloc, &script.decls, &run.engine, told, out)?;
+            told = tell_from(&script.decls, &run.engine, told, &mut text, out)?;
             at += step? + 1;
         }
         Ok(())

@@ -186,12 +186,13 @@ fn commands<D: Disk, K: Sink>(
     ensures rises { K.faults out.old ≤ K.faults out.new }
 {
     let list = script.commands.as_slice();
+    let mut text = Seq::new(alloc);
     let mut told = 0;
     let mut at = 0;
     while at < list.len() {
         let step = run.step(&list[at], &list[at + 1..]);
         keep_from(&run.engine, told, run.unmet, keep)?;
-        told = tell_from(alloc, &script.decls, &run.engine, told, out)?;
+        told = tell_from(&script.decls, &run.engine, told, &mut text, out)?;
         at += step? + 1;
     }
     Ok(())

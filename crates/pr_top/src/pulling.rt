@@ -143,8 +143,9 @@ fn tell_entries<K: Sink>(
     ensures told { Writes (entry_lines decls.now.list (entries_at node entries.now)) (HasRisen (K.faults out.old) (K.faults out.new)) (K.text out.old) (K.text out.new) result }
     ensures rises { K.faults out.old ≤ K.faults out.new }
 {
+    let mut text = Seq::new(alloc);
     for entry in entries {
-        tell_line(alloc, decls, node, &entry.event, out)?;
+        tell_line(decls, node, &entry.event, &mut text, out)?;
     }
     Ok(())
 }

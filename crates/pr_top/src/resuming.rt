@@ -24,7 +24,7 @@ use pr_node::Node;
 use pr_ports::Sink;
 use pr_script::Decls;
 use pr_sim::copied_sets;
-use pr_stamps::NoMemory;
+use pr_stamps::{NoMemory, Seq};
 use pr_story::{Entry, Journal};
 use std::alloc::Global;
 
@@ -45,12 +45,13 @@ pub fn tell_states<K: Sink>(
     ensures told { (h : List NodeEntry) → CanResume decls.now.list h → AreJournals decls.now.list h journals.items → Keeps state_of (λ m. IsImage m.changes) keep.old (placed (reverse h)) → TellsStates decls.now.list h keep.new (HasRisen (K.faults out.old) (K.faults out.new)) (K.text out.old) (K.text out.new) result }
     ensures rises { K.faults out.old ≤ K.faults out.new }
 {
+    let mut text = Seq::new(alloc);
     let mut number = 0;
     for journal in journals {
         let node = stated(alloc, decls, number, journal)?;
         let state = last(&node);
         keep_state(keep, number, state)?;
-        tell_line(alloc, decls, number, &state.event, out)?;
+        tell_line(decls, number, &state.event, &mut text, out)?;
         number += 1;
     }
     Ok(())

@@ -147,22 +147,24 @@ fn commands<K: Sink>(alloc: Global, script: &Script, run: &mut Run, out: &mut K)
     ensures rises { K.faults out.old ≤ K.faults out.new }
 {
     let list = script.commands.as_slice();
+    let mut text = Seq::new(alloc);
     let mut told = 0;
     let mut at = 0;
     while at < list.len() {
         let step = run.step(&list[at], &list[at + 1..]);
-        told = tell_from(alloc, &script.decls, &run.engine, told, out)?;
+        told = tell_from(&script.decls, &run.engine, told, &mut text, out)?;
         at += step? + 1;
     }
     Ok(())
 }
 
-/// Writes the lines of the entries from this place on, and answers how many entries there are.
+/// Writes the lines of the entries from this place on, each made in place of what `text` had, and answers how many entries
+/// there are.
 pub fn tell_from<K: Sink>(
-    alloc: Global,
     decls: &Decls,
     engine: &Engine,
     told: usize,
+    text: &mut Bytes,
     out: &mut K,
 ) -> Result<usize, Halt>
     requires { (h : List NodeEntry) × Tells (declared_of decls.now.list) h engine.now × (told ≤ length h) }
@@ -172,17 +174,17 @@ pub fn tell_from<K: Sink>(
 {
     let len = engine.history().len();
     for at in told..len {
-        tell_entry(alloc, decls, engine, at, out)?;
+        tell_entry(decls, engine, at, text, out)?;
     }
     Ok(len)
 }
 
 // Writes the line of the entry at this place.
 fn tell_entry<K: Sink>(
-    alloc: Global,
     decls: &Decls,
     engine: &Engine,
     at: usize,
+    text: &mut Bytes,
     out: &mut K,
 ) -> Result<(), Halt>
     requires { (h : List NodeEntry) × Tells (declared_of decls.now.list) h engine.now × (at < length h) }
@@ -190,27 +192,26 @@ fn tell_entry<K: Sink>(
     ensures rises { K.faults out.old ≤ K.faults out.new }
 {
     tell_line(
-        alloc,
         decls,
         engine.node_of(at),
         &engine.entry(at).event,
+        text,
         out,
     )
 }
 
-/// Writes the line of an event at the node.
+/// Writes the line of an event at the node, made in place of what `text` had.
 pub fn tell_line<K: Sink>(
-    alloc: Global,
     decls: &Decls,
     node: u32,
     event: &Event,
+    text: &mut Bytes,
     out: &mut K,
 ) -> Result<(), Halt>
     ensures told { Writes (line_text decls.now.list node event.now) (HasRisen (K.faults out.old) (K.faults out.new)) (K.text out.old) (K.text out.new) result }
     ensures rises { K.faults out.old ≤ K.faults out.new }
 {
-    let mut text = Seq::new(alloc);
-    line(alloc, decls, node, event, &mut text)?;
+    line(decls, node, event, text)?;
     write(out, text.as_slice())
 }
 

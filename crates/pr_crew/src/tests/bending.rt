@@ -106,8 +106,10 @@ fn tell(
     entries: &[Entry],
     text: &mut Bytes,
 ) -> Result<(), NoMemory> {
+    let mut made = Seq::new(alloc);
     for entry in entries {
-        line(alloc, decls, node, &entry.event, text)?;
+        line(decls, node, &entry.event, &mut made)?;
+        text.extend(made.as_slice())?;
     }
     Ok(())
 }
