@@ -8,3 +8,4 @@ pub mod Reading
 pub mod Spans
 pub mod Overlaps
 pub mod Texts
+pub mod Spelled

@@ -65,7 +65,7 @@ shifted : (a b p m n : ℕ) → a ≡ b → nat_cmp m n ≡ nat_cmp (a * p + m) 
 shifted a b p m n e = rw e (same_shift (b * p) m n)
 
 -- a leading byte decides, or what stands behind it
-cmp_step : (a b p m n : ℕ) (o : Ordering) → m < p → n < p → o ≡ nat_cmp m n → ordering_then (nat_cmp a b) o ≡ nat_cmp (a * p + m) (b * p + n)
+pub cmp_step : (a b p m n : ℕ) (o : Ordering) → m < p → n < p → o ≡ nat_cmp m n → ordering_then (nat_cmp a b) o ≡ nat_cmp (a * p + m) (b * p + n)
 cmp_step a b p m n o hm hn e = elim (trichotomy a b) [
   | inl lt ↦ rw (less_is a b lt) (sym (less_is (a * p + m) (b * p + n) (omega (arith, leads a b p lt))))
   | inr (inl eq) ↦ rw (equal_is a b eq) (e ∙ shifted a b p m n eq)

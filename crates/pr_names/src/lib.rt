@@ -10,6 +10,7 @@ mod name;
 #[cfg(test)]
 mod tests;
 mod text;
+mod words;
 
 pub use bound::Bound;
 pub use fault::IntervalFault;

@@ -4,7 +4,4 @@ use Rattle.pr_names.proofs.Places.{lt_cmp}
 use Rattle.pr_names.proofs.name.Name.is_below.Goals as goal
 
 pub returns : goal.returns
-returns c =
-    c.is_lt.ensures
-    ∙ ap is_lt (rw (← c.bytes.ensures.value, ← c.bytes-2.ensures.value) c.cmp.ensures)
-    ∙ sym (lt_cmp c.args.self.now c.args.other.now)
+returns c = c.is_lt.ensures ∙ ap is_lt c.cmp.ensures ∙ sym (lt_cmp c.args.self.now c.args.other.now)
