@@ -10,5 +10,5 @@ pub mod Lit
 pub mod Omitted
 pub mod Logs
 pub mod Counts
-pub mod LastWrites
+pub mod LastClocks
 pub mod Past

@@ -1,23 +1,30 @@
 // The known writes of one node.
 ghost use Rattle.pr_log.specs.Known.{IsAddedAt, IsFirstIn, IsForgottenUpTo, IsUpTo, at_clock, count_above};
-ghost use Rattle.pr_log.specs.Latest.{IsNextLatest};
-ghost use Rattle.std.specs.BTreeMap.Range.{IsLeBy};
+ghost use Rattle.pr_log.specs.Latest.{IsWrittenAbove};
+ghost use Rattle.pr_log.specs.Sets.{is_gathered};
+ghost use Rattle.pr_names.specs.Name.{IsName};
+ghost use Rattle.pr_sets.specs.Spans.{has};
+ghost use Rattle.std.specs.BTreeMap.Range.{IsLeBy, IsLtBy};
 ghost use Rattle.std.specs.Ordering.{nat_cmp};
-ghost use Rattle.std.specs.Prelude.{◌≡◌, ◌≤◌, ◌<◌, ◌+◌, ℕ, [], IfNone, IfSome, IsSome, IsTrue, OnErr, OnOk, None, is_some, option_copied};
+ghost use Rattle.std.specs.Prelude.{◌≡◌, ◌≤◌, ◌<◌, ◌+◌, ◌⊎◌, ◌↔◌, ℕ, List, false, [], IfNone, IfSome, IsSome, IsTrue, OnErr, OnOk, None, is_some, option_copied};
 ghost use Rattle.pr_stamps.specs.Point.{IsStamp};
 
-use crate::latest::{Latest, first_above};
+use crate::collector::Collector;
+use crate::latest::Latest;
 use pr_inval::WriteRec;
+use pr_sets::NameSet;
 use pr_stamps::NoMemory;
 use std::alloc::Global;
 use std::collections::BTreeMap;
 use std::marker::Model;
 use std::ops::Bound;
 
-// Writes by their clocks, the latest one to each name, and a clock that none of them is past.
+type Map = BTreeMap<u64, WriteRec>;
+
+// Writes by their clocks, by name the clock of the latest one, and a clock that none of them is past.
 #[derive(Drop)]
 pub struct Writes {
-    by_clock: BTreeMap<u64, WriteRec>,
+    by_clock: Map,
     latest: Latest,
     last: u64,
 }
@@ -59,7 +66,7 @@ impl Writes {
             return Ok(());
         }
         self.by_clock.insert(clock, *write)?;
-        match self.latest.put(write) {
+        match self.latest.put(&write.name, clock) {
             Ok(()) => {
                 self.last = self.last.max(clock);
                 Ok(())
@@ -94,15 +101,24 @@ impl Writes {
         }
     }
 
-    // A write above the clock such that each name that was written above the clock was written there or later, in
-    // logarithmic time: the first of the latest writes to each name.
-    pub fn latest_above(&self, clock: u64) -> Option<WriteRec>
-        ensures { IsNextLatest self.now clock result }
+    // Whether one of the names was written above the clock, in time linear in the names that were written, and past the
+    // last clock in constant time.
+    pub fn has_above(&self, clock: u64, names: &NameSet) -> bool
+        ensures { result ≡ false → (o : List ℕ) → IsWrittenAbove self.now clock o → has names.now o ≡ false }
     {
-        if self.last <= clock {
-            return None;
-        }
-        self.latest.first_above(clock)
+        self.last > clock && self.latest.has_above(clock, names)
+    }
+
+    // Adds the names that were written above the clock and are none of these, in time linear in the names.
+    pub fn omit_above(
+        &self,
+        clock: u64,
+        sub: &NameSet,
+        names: &mut Collector,
+    ) -> Result<(), NoMemory>
+        ensures { OnOk result ((o : List ℕ) → IsName o → IsTrue (is_gathered names.new o) ↔ (IsTrue (is_gathered names.old o) ⊎ ((has sub.now o ≡ false) × IsWrittenAbove self.now clock o))) }
+    {
+        self.latest.gather(clock, sub, names)
     }
 
     // Whether no write is known to be past the clock.
@@ -127,7 +143,7 @@ impl Writes {
 }
 
 // Drops the entries up to the clock.
-fn forget_up_to(writes: &mut BTreeMap<u64, WriteRec>, clock: u64)
+fn forget_up_to(writes: &mut Map, clock: u64)
     ensures { IsForgottenUpTo clock writes.old.entries writes.new.entries }
 {
     while let Some(first) = first_up_to(writes, clock) {
@@ -135,8 +151,24 @@ fn forget_up_to(writes: &mut BTreeMap<u64, WriteRec>, clock: u64)
     }
 }
 
+// The first entry above the clock.
+fn first_above(writes: &Map, clock: u64) -> Option<(u64, &WriteRec)>
+    ensures entry { IfSome result (λ e. at_clock writes.now.entries e.0 ≡ Some e.1.now) }
+    ensures above { IfSome result (λ e. clock < e.0) }
+    ensures first { IfSome result (λ e. (d : ℕ) → IsLtBy nat_cmp clock d → IsSome (at_clock writes.now.entries d) → IsLeBy nat_cmp e.0 d) }
+    ensures none { IfNone result ((d : ℕ) → IsLtBy nat_cmp clock d → at_clock writes.now.entries d ≡ None) }
+{
+    match writes
+        .range((Bound::Excluded(clock), Bound::Unbounded))
+        .next()
+    {
+        Some((first, write)) => Some((*first, write)),
+        None => None,
+    }
+}
+
 // The first clock, if it is not above this one.
-fn first_up_to(writes: &BTreeMap<u64, WriteRec>, clock: u64) -> Option<u64>
+fn first_up_to(writes: &Map, clock: u64) -> Option<u64>
     ensures within { IfSome result (λ c. (c ≤ clock) × IsSome (at_clock writes.now.entries c)) }
     ensures none { IfNone result ((c : ℕ) → IsLeBy nat_cmp c clock → at_clock writes.now.entries c ≡ None) }
 {

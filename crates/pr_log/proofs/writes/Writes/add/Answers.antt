@@ -2,18 +2,18 @@ use Rattle.std.proofs.Common.{rules, ◌≡◌, ℕ, List, None, ◌≤◌, ◌+
 use Rattle.std.specs.BTreeMap.{is_at}
 use Rattle.std.specs.Map.{remove_entry}
 use Rattle.std.specs.Ordering.{nat_cmp}
-use Rattle.pr_log.proofs.Rows.{none_by_test, put_up_to}
+use Rattle.pr_log.proofs.LastClocks.{latest_more}
+use Rattle.pr_log.proofs.Rows.{none_by_test, put_back, put_up_to}
 use Rattle.pr_inval.specs.declared.write_rec.WriteRec.{WriteRec}
 use Rattle.pr_log.specs.Known.{at_clock, count_above}
 use Rattle.pr_log.proofs.Counts.{count_insert}
-use Rattle.pr_log.proofs.LastWrites.{latest_more, put_back}
 use Rattle.pr_log.proofs.writes.Writes.add.Goals as goal
 
 pub invariant_of-self-in-Ok : goal.invariant_of-self-in-Ok
 invariant_of-self-in-Ok c =
     let none : at_clock c.self.inside.by_clock.entries c.clock-clock.result ≡ None = none_by_test _ c.has.result (rw c.self.view_is c.has.ensures) c.if-has.false in (
       put_up_to c.self.inside.by_clock.entries c.insert.new.self.entries c.args.write.now c.clock-clock.result c.self.inside.last _ (search rules) (search rules) c.in_ok-insert.ensures.updates.0 c.self.invariant.0,
-      latest_more c.self.inside.by_clock.entries c.insert.new.self.entries c.self.inside.latest c.put.new.self c.args.write.now c.clock-clock.result c.clock-clock.ensures.clock c.self.invariant.1 none c.in_ok-insert.ensures.updates.0 c.in-Ok.ensures.ok,
+      latest_more c.self.inside.by_clock.entries c.insert.new.self.entries c.self.inside.latest c.put.new.self c.args.write.now c.clock-clock.result c.self.invariant.1 none c.in_ok-insert.ensures.updates.0 c.in-Ok.ensures.ok,
     )
 
 pub returns-in-Ok-clause-few : goal.returns-in-Ok-clause-few
