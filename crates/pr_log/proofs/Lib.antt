@@ -12,3 +12,4 @@ pub mod Logs
 pub mod Counts
 pub mod LastClocks
 pub mod Past
+pub mod Ordered

@@ -4,27 +4,22 @@ ghost use Rattle.pr_log.specs.Latest.{IsWrittenAbove};
 ghost use Rattle.pr_log.specs.Sets.{is_gathered};
 ghost use Rattle.pr_names.specs.Name.{IsName};
 ghost use Rattle.pr_sets.specs.Spans.{has};
-ghost use Rattle.std.specs.BTreeMap.Range.{IsLeBy, IsLtBy};
-ghost use Rattle.std.specs.Ordering.{nat_cmp};
 ghost use Rattle.std.specs.Prelude.{◌≡◌, ◌≤◌, ◌<◌, ◌+◌, ◌⊎◌, ◌↔◌, ℕ, List, false, [], IfNone, IfSome, IsSome, IsTrue, OnErr, OnOk, None, is_some, option_copied};
 ghost use Rattle.pr_stamps.specs.Point.{IsStamp};
 
+use crate::by_clock::ByClock;
 use crate::collector::Collector;
 use crate::latest::Latest;
 use pr_inval::WriteRec;
 use pr_sets::NameSet;
 use pr_stamps::NoMemory;
 use std::alloc::Global;
-use std::collections::BTreeMap;
 use std::marker::Model;
-use std::ops::Bound;
-
-type Map = BTreeMap<u64, WriteRec>;
 
 // Writes by their clocks, by name the clock of the latest one, and a clock that none of them is past.
 #[derive(Drop)]
 pub struct Writes {
-    by_clock: Map,
+    by_clock: ByClock,
     latest: Latest,
     last: u64,
 }
@@ -37,9 +32,9 @@ impl Model for Writes {
 
     ghost Value = { List (ℕ × WriteRec) };
 
-    ghost view = { λ w. w.by_clock.entries };
+    ghost view = { λ w. w.by_clock };
 
-    ghost invariant = { λ w. IsUpTo w.last w.by_clock.entries × AreLatest w.by_clock.entries w.latest };
+    ghost invariant = { λ w. IsUpTo w.last w.by_clock × AreLatest w.by_clock w.latest };
 }
 
 impl Writes {
@@ -47,7 +42,7 @@ impl Writes {
         ensures { result ≡ [] }
     {
         Writes {
-            by_clock: BTreeMap::new(alloc),
+            by_clock: ByClock::new(alloc),
             latest: Latest::new(alloc),
             last: 0,
         }
@@ -65,14 +60,14 @@ impl Writes {
         if self.has(clock) {
             return Ok(());
         }
-        self.by_clock.insert(clock, *write)?;
+        self.by_clock.insert(clock, write)?;
         match self.latest.put(&write.name, clock) {
             Ok(()) => {
                 self.last = self.last.max(clock);
                 Ok(())
             }
             Err(error) => {
-                self.by_clock.remove(&clock);
+                self.by_clock.remove(clock);
                 Err(error)
             }
         }
@@ -82,10 +77,7 @@ impl Writes {
     fn has(&self, clock: u64) -> bool
         ensures { result ≡ is_some (at_clock self.now clock) }
     {
-        if self.last < clock {
-            return false;
-        }
-        self.by_clock.contains_key(&clock)
+        self.last >= clock && self.by_clock.has(clock)
     }
 
     // The first write above the clock, in logarithmic time, and past the last clock in constant time.
@@ -95,7 +87,7 @@ impl Writes {
         if self.last <= clock {
             return None;
         }
-        match first_above(&self.by_clock, clock) {
+        match self.by_clock.first_above(clock) {
             Some((_, write)) => Some(write),
             None => None,
         }
@@ -133,50 +125,11 @@ impl Writes {
         self.latest.names()
     }
 
-    // Drops the writes up to the clock, each in logarithmic time.
+    // Drops the writes up to the clock, in time linear in the writes.
     pub fn forget(&mut self, clock: u64)
         ensures { IsForgottenUpTo clock self.old self.new }
     {
         self.latest.forget(clock);
-        forget_up_to(&mut self.by_clock, clock);
-    }
-}
-
-// Drops the entries up to the clock.
-fn forget_up_to(writes: &mut Map, clock: u64)
-    ensures { IsForgottenUpTo clock writes.old.entries writes.new.entries }
-{
-    while let Some(first) = first_up_to(writes, clock) {
-        writes.remove(&first);
-    }
-}
-
-// The first entry above the clock.
-fn first_above(writes: &Map, clock: u64) -> Option<(u64, &WriteRec)>
-    ensures entry { IfSome result (λ e. at_clock writes.now.entries e.0 ≡ Some e.1.now) }
-    ensures above { IfSome result (λ e. clock < e.0) }
-    ensures first { IfSome result (λ e. (d : ℕ) → IsLtBy nat_cmp clock d → IsSome (at_clock writes.now.entries d) → IsLeBy nat_cmp e.0 d) }
-    ensures none { IfNone result ((d : ℕ) → IsLtBy nat_cmp clock d → at_clock writes.now.entries d ≡ None) }
-{
-    match writes
-        .range((Bound::Excluded(clock), Bound::Unbounded))
-        .next()
-    {
-        Some((first, write)) => Some((*first, write)),
-        None => None,
-    }
-}
-
-// The first clock, if it is not above this one.
-fn first_up_to(writes: &Map, clock: u64) -> Option<u64>
-    ensures within { IfSome result (λ c. (c ≤ clock) × IsSome (at_clock writes.now.entries c)) }
-    ensures none { IfNone result ((c : ℕ) → IsLeBy nat_cmp c clock → at_clock writes.now.entries c ≡ None) }
-{
-    match writes
-        .range((Bound::Unbounded, Bound::Included(clock)))
-        .next()
-    {
-        Some((first, _)) => Some(*first),
-        None => None,
+        self.by_clock.forget(clock);
     }
 }

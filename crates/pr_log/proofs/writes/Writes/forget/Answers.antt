@@ -3,6 +3,6 @@ use Rattle.pr_log.proofs.writes.Writes.forget.Goals as goal
 
 pub invariant_of-self : goal.invariant_of-self
 invariant_of-self c = (
-  up_to_forgot c.args.clock c.self.inside.last c.self.inside.by_clock.entries c.forget_up_to.new.writes.entries c.self.invariant.0 c.forget_up_to.ensures,
-  latest_forgot c.args.clock c.self.inside.by_clock.entries c.forget_up_to.new.writes.entries c.self.inside.latest c.forget.new.self c.self.invariant.1 c.forget_up_to.ensures c.forget.ensures,
+  up_to_forgot c.args.clock c.self.inside.last c.self.inside.by_clock c.forget-2.new.self c.self.invariant.0 c.forget-2.ensures,
+  latest_forgot c.args.clock c.self.inside.by_clock c.forget-2.new.self c.self.inside.latest c.forget.new.self c.self.invariant.1 c.forget-2.ensures c.forget.ensures,
 )
