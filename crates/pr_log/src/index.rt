@@ -47,7 +47,8 @@ impl Index {
         Ok(Index { rows })
     }
 
-    // Keeps the write, if no known write has its stamp. It takes time logarithmic in the writes of its node.
+    // Keeps the write, if no known write has its stamp. It takes time logarithmic in the names of its node, and in its
+    // writes where one has a later clock.
     pub(crate) fn add(&mut self, write: &WriteRec) -> Result<(), NoMemory>
         ensures ok { OnOk result (IsAdded self.old self.new write.now) }
         ensures few { OnOk result ((pos : List ℕ) → uncovered self.new pos ≤ uncovered self.old pos + 1) }
@@ -57,7 +58,7 @@ impl Index {
         self.rows[node].add(write)
     }
 
-    // Drops the writes that the cut covers, each in time logarithmic in the writes of its node.
+    // Drops the writes that the cut covers, in time linear in the known writes and their names.
     pub(crate) fn forget(&mut self, cut: &Vector)
         ensures forgotten { IsForgotten self.old self.new cut.now }
         ensures few { (pos : List ℕ) → uncovered self.new pos ≤ uncovered self.old pos }
@@ -82,7 +83,7 @@ impl Index {
     }
 
     // The names of known writes between the vectors that are none of these, in time logarithmic in the writes of a
-    // node, for each write between, and of a node that wrote nothing past the end for each name between.
+    // node, for each write between, and of a node that wrote nothing past the end at most for each of its names.
     pub(crate) fn omitted(
         &self,
         alloc: Global,

@@ -48,8 +48,8 @@ impl Writes {
         }
     }
 
-    // Keeps the write, if none has its clock. It takes time logarithmic in the writes and in their names, and one
-    // look-up less past the last clock.
+    // Keeps the write, if none has its clock. It takes time logarithmic in the names, and before the last clock in the
+    // writes too.
     pub fn add(&mut self, write: &WriteRec) -> Result<(), NoMemory>
         ensures ok { OnOk result (IsAddedAt self.old self.new write.now) }
         ensures few { OnOk result ((c : ℕ) → count_above self.new c ≤ count_above self.old c + 1) }
