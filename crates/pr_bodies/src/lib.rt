@@ -2,7 +2,8 @@
 #![tactic(auto)]
 
 mod bodies;
-mod row;
+mod key;
+mod lookup;
 #[cfg(test)]
 mod tests;
 

@@ -10,6 +10,5 @@ pub mod Lit
 pub mod Omitted
 pub mod Logs
 pub mod Counts
-pub mod LastClocks
+pub mod LastWrites
 pub mod Past
-pub mod Ordered
