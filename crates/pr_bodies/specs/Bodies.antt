@@ -1,22 +1,28 @@
 -- The bodies that are held, by name and stamp.
-use Rattle.std.specs.Prelude.{◌≡◌, ℕ, Bool, List, Option, None, Some, nat_eq, cond, ◌&&◌}
+use Rattle.std.specs.Prelude.{◌≡◌, ℕ, Bool, List, [], Option, None, Some, cond, ◌&&◌}
+use Rattle.std.specs.Cmp.Lexicographic.{slice_cmp}
 use Rattle.std.specs.Map.{lookup}
+use Rattle.std.specs.Option.{unwrap_or}
+use Rattle.std.specs.Ordering.{is_eq, nat_cmp}
 use Rattle.std.specs.Str.{bytes_eq}
-use Rattle.pr_stamps.specs.Point.{Point, is_before, is_this}
-use Rattle.pr_bodies.specs.declared.key.Key.{Key}
+use Rattle.pr_stamps.specs.Point.{Point, is_before, is_same, is_this}
 
--- the bodies with what they are kept under, and whether a call was refused memory
+-- by name its bodies with their stamps, and whether a call was refused memory
 pub record Held : Type 0 where
-  pub bodies : List (Key × List ℕ)
+  pub rows : List (List ℕ × List (Point × List ℕ))
   pub spent : Bool
 
--- the key is that of this name and stamp
-abbrev pub is_key : List ℕ → Point → Key → Bool
-is_key o t k = bytes_eq o k.name && (nat_eq t.clock k.clock && nat_eq t.node k.node)
+-- the bodies of a name
+abbrev pub row_of : List (List ℕ × List (Point × List ℕ)) → List ℕ → List (Point × List ℕ)
+row_of rows o = unwrap_or (lookup (λ k. is_eq (slice_cmp nat_cmp o k)) rows) []
+
+-- of a name's bodies the one of this stamp
+abbrev pub body_of : List (Point × List ℕ) → Point → Option (List ℕ)
+body_of row t = lookup (is_same t) row
 
 -- the body of this name and stamp
 abbrev pub held : Held → List ℕ → Point → Option (List ℕ)
-held h o t = lookup (is_key o t) h.bodies
+held h o t = body_of (row_of h.rows o) t
 
 -- a body is put, in place of one with its name and stamp
 abbrev pub IsPut : Held → Held → List ℕ → Point → List ℕ → Type 0

@@ -2,8 +2,7 @@
 ghost use Rattle.pr_bodies.specs.Bodies.{IsDroppedAll, IsPut, IsSettled, held};
 ghost use Rattle.std.specs.Prelude.{◌≡◌, [], true, false, None, Some, IsErr, MatchOption, OnErr, OnOk};
 
-use crate::key::Key;
-use crate::lookup::{older, oldest};
+use crate::row::Row;
 use pr_names::Name;
 use pr_stamps::{NoMemory, Seq, Stamp};
 use std::alloc::Global;
@@ -11,11 +10,12 @@ use std::collections::BTreeMap;
 use std::marker::Model;
 
 /// The bodies that a node holds, by name and stamp. After want of memory it is spent: each later `put` is refused, and
-/// of what it holds nothing is said.
+/// of what it holds nothing is said. Of a name mostly one body is held, so a call's time linear in the bodies of the
+/// name is mostly constant.
 #[derive(Drop)]
 pub struct Bodies {
     alloc: Global,
-    bodies: BTreeMap<Key, Seq<u8>>,
+    rows: BTreeMap<Name, Row>,
     spent: bool,
 }
 
@@ -24,23 +24,23 @@ impl Model for Bodies {
 
     ghost Value = { Held };
 
-    ghost view = { λ b. record { bodies = b.bodies.entries; spent = b.spent } };
+    ghost view = { λ b. record { rows = b.rows.entries; spent = b.spent } };
 }
 
 impl Bodies {
     /// An empty store, which takes no memory.
     pub fn new(alloc: Global) -> Bodies
-        ensures { result ≡ record { bodies = []; spent = false } }
+        ensures { result ≡ record { rows = []; spent = false } }
     {
         Bodies {
             alloc,
-            bodies: BTreeMap::new(alloc),
+            rows: BTreeMap::new(alloc),
             spent: false,
         }
     }
 
-    /// Holds a body, in place of one with its name and stamp. It takes time logarithmic in the bodies held, and linear
-    /// in the bytes.
+    /// Holds a body, in place of one with its name and stamp. It takes time logarithmic in the names, and linear in the
+    /// bodies of the name and in the bytes.
     pub fn put(&mut self, name: &Name, stamp: &Stamp, bytes: &[u8]) -> Result<(), NoMemory>
         ensures ok { OnOk result (IsPut self.old self.new name.now stamp.now bytes.now) }
         ensures works { OnOk result (self.new.spent ≡ false) }
@@ -52,38 +52,40 @@ impl Bodies {
         }
         self.spent = true;
         let bytes = Seq::copied(self.alloc, bytes)?;
-        self.bodies.insert(Key::of(name, stamp), bytes)?;
+        let row = self.rows.entry(*name)?.or_insert(Row::new(self.alloc));
+        row.put(stamp, bytes)?;
         self.spent = false;
         Ok(())
     }
 
-    /// The body of this name and stamp, in time logarithmic in the bodies held; None exactly where it is not held.
+    /// The body of this name and stamp, in time logarithmic in the names and linear in the bodies of the name; None
+    /// exactly where it is not held.
     pub fn get(&self, name: &Name, stamp: &Stamp) -> Option<&[u8]>
         ensures { MatchOption result (held self.now name.now stamp.now ≡ None) (λ b. held self.now name.now stamp.now ≡ Some b.now) }
     {
-        match self.bodies.get(&Key::of(name, stamp)) {
-            Some(bytes) => Some(bytes.as_slice()),
+        match self.rows.get(name) {
+            Some(row) => row.get(stamp),
             None => None,
         }
     }
 
-    /// Drops the bodies of the name with smaller stamps, each in time logarithmic in the bodies held.
+    /// Drops the bodies of the name with smaller stamps, in time logarithmic in the names and linear in the bodies of
+    /// the name. It takes no memory.
     pub fn settle(&mut self, name: &Name, stamp: &Stamp)
         ensures settled { IsSettled self.old self.new name.now stamp.now }
         ensures spent { self.new.spent ≡ self.old.spent }
     {
-        while let Some(key) = older(&self.bodies, name, stamp) {
-            self.bodies.remove(&key);
+        if let Some(row) = self.rows.get_mut(name) {
+            row.settle(stamp);
         }
     }
 
-    /// Drops the bodies of the name, each in time logarithmic in the bodies held.
+    /// Drops the bodies of the name, in time logarithmic in the names and linear in the bodies of the name. It takes no
+    /// memory.
     pub fn drop_all(&mut self, name: &Name)
         ensures dropped { IsDroppedAll self.old self.new name.now }
         ensures spent { self.new.spent ≡ self.old.spent }
     {
-        while let Some(key) = oldest(&self.bodies, name) {
-            self.bodies.remove(&key);
-        }
+        self.rows.remove(name);
     }
 }

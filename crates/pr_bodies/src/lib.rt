@@ -2,8 +2,7 @@
 #![tactic(auto)]
 
 mod bodies;
-mod key;
-mod lookup;
+mod row;
 #[cfg(test)]
 mod tests;
 

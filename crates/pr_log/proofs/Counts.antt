@@ -5,7 +5,6 @@ use Rattle.std.specs.declared.cmp.Ordering.{Ordering}
 use Rattle.std.specs.declared.cmp.Ordering.TheVariants.{Less, Equal, Greater}
 use Rattle.std.specs.Ordering.{match_ordering, nat_cmp}
 use Rattle.std.specs.BTreeMap.{insert_entry}
-use Rattle.std.specs.Map.{remove_entry}
 use Rattle.std.proofs.lemmas.List.{get_or-set_same, get_or-set_other}
 use Rattle.pr_vectors.specs.Vector.{clock_of}
 use Rattle.pr_inval.specs.declared.write_rec.WriteRec.{WriteRec}
@@ -26,15 +25,6 @@ count_insert (e ∷ es) k v c = placed (nat_cmp k e.0) (count_insert es k v c)
     placed Less so_far = omega (arith, count_more (k, v) (e ∷ es) c, one_most (nat_lt c k))
     placed Equal so_far = omega (arith, count_more (e.0, v) es c, count_more e es c)
     placed Greater so_far = omega (arith, count_more e (insert_entry nat_cmp es k v) c, count_more e es c, so_far)
-
--- an entry less, or none
-pub count_remove : (test : ℕ → Bool) (es : List (ℕ × WriteRec)) (c : ℕ) → count_above (remove_entry test es) c ≤ count_above es c
-count_remove test [] c = omega arith
-count_remove test (e ∷ es) c = picked (test e.0) (count_remove test es c)
-  where
-    picked : (b : Bool) → count_above (remove_entry test es) c ≤ count_above es c → count_above (cond b es (e ∷ remove_entry test es)) c ≤ count_above (e ∷ es) c
-    picked true so_far = omega (arith, count_more e es c)
-    picked false so_far = omega (arith, count_more e es c, count_more e (remove_entry test es) c, so_far)
 
 pub total_most : (f g : ℕ → ℕ) (n : ℕ) → ((k : ℕ) → k < n → g k ≤ f k) → total g n ≤ total f n
 unfolding total

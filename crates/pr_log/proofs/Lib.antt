@@ -10,5 +10,6 @@ pub mod Lit
 pub mod Omitted
 pub mod Logs
 pub mod Counts
-pub mod LastWrites
+pub mod LastClocks
 pub mod Past
+pub mod Ordered

@@ -16,3 +16,6 @@ past_end (x ∷ xs) (suc n) d le = past_end xs n d (omega (arith, le))
 -- the place that an index finds
 pub at_place : {A : Type 0} (items : List A) (n : ℕ) (x d : A) → x ≡ get_or items n x → n < length items → x ≡ get_or items n d
 at_place items n x d is lt = is ∙ get_or_default items n x d lt
+
+pub less_by : (a b : ℕ) → a ≤ b → ¬ (a ≡ b) → a < b
+less_by a b le other = grind (arith, nat_tests)

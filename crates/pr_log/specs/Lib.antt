@@ -1,6 +1,7 @@
 pub mod Sets
 pub mod Dark
 pub mod Known
+pub mod Entries
 pub mod Latest
 pub mod Waiting
 pub mod Log

@@ -3,7 +3,7 @@ ghost use Rattle.pr_log.specs.Sets.{is_any, is_gathered, is_in_any};
 ghost use Rattle.pr_names.specs.Name.{IsName};
 ghost use Rattle.pr_names.specs.Span.{holds};
 ghost use Rattle.pr_sets.specs.Spans.{IsSet, has};
-ghost use Rattle.std.specs.Prelude.{◌≡◌, ◌||◌, ◌++◌, ◌∷◌, ℕ, List, [], IfOk, IfSome, OnOk, MatchOption, None, true, false};
+ghost use Rattle.std.specs.Prelude.{◌≡◌, ◌||◌, ◌&&◌, ◌++◌, ◌∷◌, ℕ, List, [], IfOk, IfSome, OnOk, MatchOption, None, true, false, not};
 ghost use Rattle.std.specs.Str.{bytes_eq};
 
 use pr_names::{Interval, Name};
@@ -63,6 +63,16 @@ impl Collector {
     {
         self.names.insert(*name)?;
         Ok(())
+    }
+
+    // Adds the name, if it is none of these.
+    pub fn add_outside(&mut self, sub: &NameSet, name: &Name) -> Result<(), NoMemory>
+        ensures { OnOk result ((o : List ℕ) → IsName o → is_gathered self.new o ≡ (is_gathered self.old o || (bytes_eq name.now o && not (has sub.now name.now)))) }
+    {
+        if sub.has(name) {
+            return Ok(());
+        }
+        self.add_name(name)
     }
 
     // The names of all sets and the names alone.

@@ -1,19 +1,17 @@
 //! The known writes of a log.
 ghost use Rattle.pr_log.specs.Sets.{is_gathered};
 ghost use Rattle.pr_log.specs.Known.{Has, IsAdded, IsByStamp, IsFirstAbove, IsForgotten, IsForgottenUpTo, IsOmittedBetween, IsOmittedOf, IsWaiting, uncovered};
-ghost use Rattle.pr_log.specs.Latest.{IsNextLatestOf};
+ghost use Rattle.pr_log.specs.Latest.{WroteAbove};
 ghost use Rattle.pr_names.specs.Name.{IsName};
 ghost use Rattle.pr_sets.specs.Spans.{IsSetOf, has};
-ghost use Rattle.std.specs.Str.{bytes_eq};
 ghost use Rattle.pr_inval.specs.declared.write_rec.WriteRec.{WriteRec};
 ghost use Rattle.pr_vectors.specs.Vector.{clock_of};
-ghost use Rattle.std.specs.Prelude.{◌≡◌, ◌≤◌, ◌<◌, ◌+◌, ◌⊎◌, ◌↔◌, ◌||◌, ◌&&◌, ℕ, List, [], not, length, slice_index_or, IfNone, IfOk, IfSome, IsTrue, OnErr, OnOk, Some, false, option_copied};
+ghost use Rattle.std.specs.Prelude.{◌≡◌, ◌≤◌, ◌<◌, ◌+◌, ◌⊎◌, ◌↔◌, ℕ, List, [], length, slice_index_or, IfNone, IfOk, IfSome, IsTrue, OnErr, OnOk, Some, false, option_copied};
 
 use crate::Steps;
 use crate::collector::Collector;
 use crate::writes::Writes;
 use pr_inval::WriteRec;
-use pr_names::Name;
 use pr_sets::NameSet;
 use pr_stamps::{NODES, NoMemory};
 use pr_vectors::Vector;
@@ -49,7 +47,8 @@ impl Index {
         Ok(Index { rows })
     }
 
-    // Keeps the write, if no known write has its stamp. It takes time logarithmic in the writes of its node.
+    // Keeps the write, if no known write has its stamp. It takes time logarithmic in the names of its node, and in its
+    // writes where one has a later clock.
     pub(crate) fn add(&mut self, write: &WriteRec) -> Result<(), NoMemory>
         ensures ok { OnOk result (IsAdded self.old self.new write.now) }
         ensures few { OnOk result ((pos : List ℕ) → uncovered self.new pos ≤ uncovered self.old pos + 1) }
@@ -59,7 +58,7 @@ impl Index {
         self.rows[node].add(write)
     }
 
-    // Drops the writes that the cut covers, each in time logarithmic in the writes of its node.
+    // Drops the writes that the cut covers, in time linear in the known writes and their names.
     pub(crate) fn forget(&mut self, cut: &Vector)
         ensures forgotten { IsForgotten self.old self.new cut.now }
         ensures few { (pos : List ℕ) → uncovered self.new pos ≤ uncovered self.old pos }
@@ -84,7 +83,7 @@ impl Index {
     }
 
     // The names of known writes between the vectors that are none of these, in time logarithmic in the writes of a
-    // node, for each write between, and of a node that wrote nothing past the end for each name between.
+    // node, for each write between, and of a node that wrote nothing past the end at most for each of its names.
     pub(crate) fn omitted(
         &self,
         alloc: Global,
@@ -120,7 +119,8 @@ impl Index {
         self.omit_each(writer, from, to, sub, names)
     }
 
-    // The same where no write is past the end, by the latest write to each name.
+    // The same where no write is past the end: by each write, and behind as many as there are names, by the latest write
+    // to each name.
     fn omit_past(
         &self,
         writer: u32,
@@ -134,11 +134,14 @@ impl Index {
         ensures { OnOk result ((o : List ℕ) → IsName o → IsTrue (is_gathered names.new o) ↔ (IsTrue (is_gathered names.old o) ⊎ IsOmittedOf self.now sub.now writer from to o)) }
     {
         let mut clock = from;
-        while let Some(write) = self.latest_above(writer, clock) {
-            add_outside(names, sub, &write.name)?;
+        for _ in 0..self.names_of(writer) {
+            let Some(write) = self.first_between(writer, clock, to) else {
+                return Ok(());
+            };
+            names.add_outside(sub, &write.name)?;
             clock = write.stamp.clock();
         }
-        Ok(())
+        self.omit_above(writer, clock, sub, names)
     }
 
     // The same, by each write.
@@ -155,14 +158,14 @@ impl Index {
     {
         let mut clock = from;
         while let Some(write) = self.first_between(writer, clock, to) {
-            add_outside(names, sub, &write.name)?;
+            names.add_outside(sub, &write.name)?;
             clock = write.stamp.clock();
         }
         Ok(())
     }
 
-    // Whether a known write to one of the names lies past the position, in time logarithmic in a node's names, for each
-    // name that was written there.
+    // Whether a known write to one of the names lies past the position, in time linear in the names that the nodes wrote
+    // to.
     pub(crate) fn waits(&self, pos: &Vector, sub: &NameSet) -> bool
         ensures { result ≡ false → (x : WriteRec) → ¬ IsWaiting self.now pos.now sub.now x }
     {
@@ -180,14 +183,28 @@ impl Index {
         requires { writer < 32 }
         ensures { result ≡ false → (x : WriteRec) → Has self.now x → x.stamp.node ≡ writer → from < x.stamp.clock → has sub.now x.name ≡ false }
     {
-        let mut clock = from;
-        while let Some(write) = self.latest_above(writer, clock) {
-            if sub.has(&write.name) {
-                return true;
-            }
-            clock = write.stamp.clock();
-        }
-        false
+        self.rows[writer as usize].has_above(from, sub)
+    }
+
+    // Adds the names of the node's writes above the clock that are none of these.
+    fn omit_above(
+        &self,
+        writer: u32,
+        clock: u64,
+        sub: &NameSet,
+        names: &mut Collector,
+    ) -> Result<(), NoMemory>
+        requires { writer < 32 }
+        ensures { OnOk result ((o : List ℕ) → IsName o → IsTrue (is_gathered names.new o) ↔ (IsTrue (is_gathered names.old o) ⊎ ((has sub.now o ≡ false) × WroteAbove self.now writer clock o))) }
+    {
+        self.rows[writer as usize].omit_above(clock, sub, names)
+    }
+
+    // How many names the node wrote to.
+    fn names_of(&self, writer: u32) -> usize
+        requires { writer < 32 }
+    {
+        self.rows[writer as usize].names()
     }
 
     // How many names the nodes wrote to, each node's counted apart.
@@ -209,15 +226,6 @@ impl Index {
             Some(write) => up_to(*write, to),
             None => None,
         }
-    }
-
-    // A known write of the node above the clock such that each name to which it wrote above the clock was written there
-    // or later.
-    fn latest_above(&self, writer: u32, clock: u64) -> Option<WriteRec>
-        requires { writer < 32 }
-        ensures { IsNextLatestOf self.now writer clock result }
-    {
-        self.rows[writer as usize].latest_above(clock)
     }
 
     // Whether no known write of the node is past the clock.
@@ -254,16 +262,6 @@ fn up_to(write: WriteRec, clock: u64) -> Option<WriteRec>
     } else {
         None
     }
-}
-
-// Adds the name, if it is none of these.
-fn add_outside(names: &mut Collector, sub: &NameSet, name: &Name) -> Result<(), NoMemory>
-    ensures { OnOk result ((o : List ℕ) → IsName o → is_gathered names.new o ≡ (is_gathered names.old o || (bytes_eq name.now o && not (has sub.now name.now)))) }
-{
-    if sub.has(name) {
-        return Ok(());
-    }
-    names.add_name(name)
 }
 
 fn rows(alloc: Global) -> Result<Vec<Writes>, NoMemory>

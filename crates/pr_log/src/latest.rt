@@ -1,40 +1,30 @@
-// The latest writes of one node, one for each name.
-ghost use Rattle.pr_inval.specs.declared.write_rec.WriteRec.{WriteRec};
-ghost use Rattle.pr_log.specs.Known.{IsFirstIn, at_clock};
-ghost use Rattle.pr_log.specs.Latest.{IsPutLatest, IsRaised};
-ghost use Rattle.pr_stamps.specs.Point.{IsStamp};
-ghost use Rattle.std.specs.BTreeMap.Range.{IsLeBy, IsLtBy};
-ghost use Rattle.std.specs.Ordering.{nat_cmp};
-ghost use Rattle.std.specs.Prelude.{◌≡◌, ◌≤◌, ◌<◌, ℕ, [], IfNone, IfSome, IsSome, OnErr, OnOk, None, Some};
+// The clocks of the latest writes of one node.
+ghost use Rattle.pr_log.specs.Latest.{IsAbove, IsLeftAbove, IsRaised};
+ghost use Rattle.pr_log.specs.Sets.{is_gathered};
+ghost use Rattle.pr_names.specs.Name.{IsName};
+ghost use Rattle.pr_sets.specs.Spans.{has};
+ghost use Rattle.std.specs.Prelude.{◌≡◌, ◌⊎◌, ◌↔◌, ℕ, List, [], IsTrue, OnErr, OnOk, false};
 
-use pr_inval::WriteRec;
+use crate::collector::Collector;
 use pr_names::Name;
+use pr_sets::NameSet;
 use pr_stamps::NoMemory;
 use std::alloc::Global;
 use std::collections::BTreeMap;
 use std::marker::Model;
-use std::ops::Bound;
 
-type Map = BTreeMap<u64, WriteRec>;
-
-// Of each name the write with the greatest clock, by its clock, and that clock by the name. A name that a refused call
-// left without a write has the clock 0.
+// By name the clock of the latest write to it.
 #[derive(Drop)]
 pub struct Latest {
-    writes: Map,
     clocks: BTreeMap<Name, u64>,
 }
 
 impl Model for Latest {
     ghost use Rattle.std.specs.Prelude.{List, ℕ};
-    ghost use Rattle.pr_inval.specs.declared.write_rec.WriteRec.{WriteRec};
-    ghost use Rattle.pr_log.specs.Latest.{AreClocks};
 
-    ghost Value = { List (ℕ × WriteRec) };
+    ghost Value = { List (List ℕ × ℕ) };
 
-    ghost view = { λ l. l.writes.entries };
-
-    ghost invariant = { λ l. AreClocks l.clocks.entries l.writes.entries };
+    ghost view = { λ l. l.clocks.entries };
 }
 
 impl Latest {
@@ -42,91 +32,53 @@ impl Latest {
         ensures { result ≡ [] }
     {
         Latest {
-            writes: BTreeMap::new(alloc),
             clocks: BTreeMap::new(alloc),
         }
     }
 
-    // Takes the write in place of an earlier one to its name, if none is later. It takes time logarithmic in the names.
-    pub fn put(&mut self, write: &WriteRec) -> Result<(), NoMemory>
-        requires { at_clock self.old write.now.stamp.clock ≡ None }
-        ensures ok { OnOk result (IsPutLatest self.old self.new write.now) }
+    // Knows of a write to the name at this clock, in time logarithmic in the names.
+    pub fn put(&mut self, name: &Name, clock: u64) -> Result<(), NoMemory>
+        ensures ok { OnOk result (IsRaised self.old self.new name.now clock) }
         ensures err { OnErr result (self.new ≡ self.old) }
     {
-        let last = self.clocks.entry(write.name)?.or_insert(0);
-        raise(&mut self.writes, last, write)
+        let last = self.clocks.entry(*name)?.or_insert(clock);
+        *last = (*last).max(clock);
+        Ok(())
     }
 
-    // Drops the writes up to the clock, each in logarithmic time.
+    // Forgets the names with no write above the clock, in time linear in the names.
     pub fn forget(&mut self, clock: u64)
-        ensures gone { (c : ℕ) → c ≤ clock → at_clock self.new c ≡ None }
-        ensures kept { (c : ℕ) → clock < c → at_clock self.new c ≡ at_clock self.old c }
+        ensures { IsLeftAbove clock self.old self.new }
     {
-        while let Some((first, name)) = first_up_to(&self.writes, clock) {
-            self.writes.remove(&first);
-            self.clocks.remove(&name);
-        }
+        self.clocks.retain(|_, last| *last > clock);
     }
 
-    // The first of them above the clock, in logarithmic time.
-    pub fn first_above(&self, clock: u64) -> Option<WriteRec>
-        ensures { IsFirstIn self.now clock result }
+    // Whether one of the names has a write above the clock, in time linear in the names that have writes.
+    pub fn has_above(&self, clock: u64, names: &NameSet) -> bool
+        ensures { result ≡ false → (o : List ℕ) → IsAbove self.now clock o → has names.now o ≡ false }
     {
-        match first_above(&self.writes, clock) {
-            Some((_, write)) => Some(*write),
-            None => None,
+        for (name, last) in self.clocks.iter() {
+            if *last > clock && names.has(name) {
+                return true;
+            }
         }
+        false
+    }
+
+    // Adds the names with a write above the clock that are none of these, in time linear in the names that have writes.
+    pub fn gather(&self, clock: u64, sub: &NameSet, names: &mut Collector) -> Result<(), NoMemory>
+        ensures { OnOk result ((o : List ℕ) → IsName o → IsTrue (is_gathered names.new o) ↔ (IsTrue (is_gathered names.old o) ⊎ ((has sub.now o ≡ false) × IsAbove self.now clock o))) }
+    {
+        for (name, last) in self.clocks.iter() {
+            if *last > clock {
+                names.add_outside(sub, name)?;
+            }
+        }
+        Ok(())
     }
 
     // How many names there are.
     pub fn names(&self) -> usize {
-        self.writes.len()
-    }
-}
-
-// The write takes the place of the one with the last clock of its name, if it is later.
-fn raise(writes: &mut Map, last: &mut u64, write: &WriteRec) -> Result<(), NoMemory>
-    ensures ok { OnOk result (IsRaised writes.old.entries last.old writes.new.entries last.new write.now) }
-    ensures err { OnErr result ((writes.new.entries ≡ writes.old.entries) × (last.new ≡ last.old)) }
-    ensures range { IsStamp write.now.stamp }
-{
-    let clock = write.stamp.clock();
-    if clock <= *last {
-        return Ok(());
-    }
-    writes.insert(clock, *write)?;
-    writes.remove(&*last);
-    *last = clock;
-    Ok(())
-}
-
-// The first entry above the clock.
-pub fn first_above(writes: &Map, clock: u64) -> Option<(u64, &WriteRec)>
-    ensures entry { IfSome result (λ e. at_clock writes.now.entries e.0 ≡ Some e.1.now) }
-    ensures above { IfSome result (λ e. clock < e.0) }
-    ensures first { IfSome result (λ e. (d : ℕ) → IsLtBy nat_cmp clock d → IsSome (at_clock writes.now.entries d) → IsLeBy nat_cmp e.0 d) }
-    ensures none { IfNone result ((d : ℕ) → IsLtBy nat_cmp clock d → at_clock writes.now.entries d ≡ None) }
-{
-    match writes
-        .range((Bound::Excluded(clock), Bound::Unbounded))
-        .next()
-    {
-        Some((first, write)) => Some((*first, write)),
-        None => None,
-    }
-}
-
-// The first clock, if it is not above this one, and the name of its write.
-fn first_up_to(writes: &Map, clock: u64) -> Option<(u64, Name)>
-    ensures within { IfSome result (λ e. e.0 ≤ clock) }
-    ensures entry { IfSome result (λ e. (w : WriteRec) × (at_clock writes.now.entries e.0 ≡ Some w) × (w.name ≡ e.1)) }
-    ensures none { IfNone result ((c : ℕ) → IsLeBy nat_cmp c clock → at_clock writes.now.entries c ≡ None) }
-{
-    match writes
-        .range((Bound::Unbounded, Bound::Included(clock)))
-        .next()
-    {
-        Some((first, write)) => Some((*first, write.name)),
-        None => None,
+        self.clocks.len()
     }
 }

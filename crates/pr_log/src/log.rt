@@ -62,7 +62,7 @@ impl Log {
         })
     }
 
-    /// Knows of a write of its own, whose point the vector then covers, in time logarithmic in the node's known writes.
+    /// Knows of a write of its own, whose point the vector then covers, in time logarithmic in the names that it wrote to.
     pub fn add_own(&mut self, write: &WriteRec) -> Result<(), NoMemory>
         requires own { write.now.stamp.node ≡ self.old.node }
         requires above { clock_of self.old.vector write.now.stamp.node < write.now.stamp.clock }
@@ -123,8 +123,9 @@ impl Log {
         Ok(())
     }
 
-    /// Joins the vector to the cut. The writes that it covers are forgotten, and so are the dark sets that stand below
-    /// it alone, each in logarithmic time. It takes no memory.
+    /// Joins the vector to the cut. The writes that it covers are forgotten, in time linear in the known writes and the
+    /// names that they are to, and so are the dark sets that stand below it alone, each in logarithmic time. It takes no
+    /// memory.
     pub fn cut(&mut self)
         ensures cut { IsCut self.old self.new }
         ensures spent { self.new.spent ≡ self.old.spent }
@@ -194,7 +195,8 @@ impl Log {
     }
 
     /// The names outside the subscription of known writes at points between the vectors, in time logarithmic in the
-    /// node's known writes, for each write between; where none of the writer's lies past the end, for each name between.
+    /// node's known writes, for each write between; where none of the writer's lies past the end, at most for each of its
+    /// names.
     pub fn omitted_between(
         &self,
         from: &Vector,

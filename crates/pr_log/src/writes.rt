@@ -1,23 +1,25 @@
 // The known writes of one node.
 ghost use Rattle.pr_log.specs.Known.{IsAddedAt, IsFirstIn, IsForgottenUpTo, IsUpTo, at_clock, count_above};
-ghost use Rattle.pr_log.specs.Latest.{IsNextLatest};
-ghost use Rattle.std.specs.BTreeMap.Range.{IsLeBy};
-ghost use Rattle.std.specs.Ordering.{nat_cmp};
-ghost use Rattle.std.specs.Prelude.{◌≡◌, ◌≤◌, ◌<◌, ◌+◌, ℕ, [], IfNone, IfSome, IsSome, IsTrue, OnErr, OnOk, None, is_some, option_copied};
+ghost use Rattle.pr_log.specs.Latest.{IsWrittenAbove};
+ghost use Rattle.pr_log.specs.Sets.{is_gathered};
+ghost use Rattle.pr_names.specs.Name.{IsName};
+ghost use Rattle.pr_sets.specs.Spans.{has};
+ghost use Rattle.std.specs.Prelude.{◌≡◌, ◌≤◌, ◌<◌, ◌+◌, ◌⊎◌, ◌↔◌, ℕ, List, false, [], IfNone, IfSome, IsSome, IsTrue, OnErr, OnOk, None, is_some, option_copied};
 ghost use Rattle.pr_stamps.specs.Point.{IsStamp};
 
-use crate::latest::{Latest, first_above};
+use crate::by_clock::ByClock;
+use crate::collector::Collector;
+use crate::latest::Latest;
 use pr_inval::WriteRec;
+use pr_sets::NameSet;
 use pr_stamps::NoMemory;
 use std::alloc::Global;
-use std::collections::BTreeMap;
 use std::marker::Model;
-use std::ops::Bound;
 
-// Writes by their clocks, the latest one to each name, and a clock that none of them is past.
+// Writes by their clocks, by name the clock of the latest one, and a clock that none of them is past.
 #[derive(Drop)]
 pub struct Writes {
-    by_clock: BTreeMap<u64, WriteRec>,
+    by_clock: ByClock,
     latest: Latest,
     last: u64,
 }
@@ -30,9 +32,9 @@ impl Model for Writes {
 
     ghost Value = { List (ℕ × WriteRec) };
 
-    ghost view = { λ w. w.by_clock.entries };
+    ghost view = { λ w. w.by_clock };
 
-    ghost invariant = { λ w. IsUpTo w.last w.by_clock.entries × AreLatest w.by_clock.entries w.latest };
+    ghost invariant = { λ w. IsUpTo w.last w.by_clock × AreLatest w.by_clock w.latest };
 }
 
 impl Writes {
@@ -40,14 +42,14 @@ impl Writes {
         ensures { result ≡ [] }
     {
         Writes {
-            by_clock: BTreeMap::new(alloc),
+            by_clock: ByClock::new(alloc),
             latest: Latest::new(alloc),
             last: 0,
         }
     }
 
-    // Keeps the write, if none has its clock. It takes time logarithmic in the writes and in their names, and one
-    // look-up less past the last clock.
+    // Keeps the write, if none has its clock. It takes time logarithmic in the names, and before the last clock in the
+    // writes too.
     pub fn add(&mut self, write: &WriteRec) -> Result<(), NoMemory>
         ensures ok { OnOk result (IsAddedAt self.old self.new write.now) }
         ensures few { OnOk result ((c : ℕ) → count_above self.new c ≤ count_above self.old c + 1) }
@@ -58,14 +60,14 @@ impl Writes {
         if self.has(clock) {
             return Ok(());
         }
-        self.by_clock.insert(clock, *write)?;
-        match self.latest.put(write) {
+        self.by_clock.insert(clock, write)?;
+        match self.latest.put(&write.name, clock) {
             Ok(()) => {
                 self.last = self.last.max(clock);
                 Ok(())
             }
             Err(error) => {
-                self.by_clock.remove(&clock);
+                self.by_clock.remove(clock);
                 Err(error)
             }
         }
@@ -75,10 +77,7 @@ impl Writes {
     fn has(&self, clock: u64) -> bool
         ensures { result ≡ is_some (at_clock self.now clock) }
     {
-        if self.last < clock {
-            return false;
-        }
-        self.by_clock.contains_key(&clock)
+        self.last >= clock && self.by_clock.has(clock)
     }
 
     // The first write above the clock, in logarithmic time, and past the last clock in constant time.
@@ -88,21 +87,30 @@ impl Writes {
         if self.last <= clock {
             return None;
         }
-        match first_above(&self.by_clock, clock) {
+        match self.by_clock.first_above(clock) {
             Some((_, write)) => Some(write),
             None => None,
         }
     }
 
-    // A write above the clock such that each name that was written above the clock was written there or later, in
-    // logarithmic time: the first of the latest writes to each name.
-    pub fn latest_above(&self, clock: u64) -> Option<WriteRec>
-        ensures { IsNextLatest self.now clock result }
+    // Whether one of the names was written above the clock, in time linear in the names that were written, and past the
+    // last clock in constant time.
+    pub fn has_above(&self, clock: u64, names: &NameSet) -> bool
+        ensures { result ≡ false → (o : List ℕ) → IsWrittenAbove self.now clock o → has names.now o ≡ false }
     {
-        if self.last <= clock {
-            return None;
-        }
-        self.latest.first_above(clock)
+        self.last > clock && self.latest.has_above(clock, names)
+    }
+
+    // Adds the names that were written above the clock and are none of these, in time linear in the names.
+    pub fn omit_above(
+        &self,
+        clock: u64,
+        sub: &NameSet,
+        names: &mut Collector,
+    ) -> Result<(), NoMemory>
+        ensures { OnOk result ((o : List ℕ) → IsName o → IsTrue (is_gathered names.new o) ↔ (IsTrue (is_gathered names.old o) ⊎ ((has sub.now o ≡ false) × IsWrittenAbove self.now clock o))) }
+    {
+        self.latest.gather(clock, sub, names)
     }
 
     // Whether no write is known to be past the clock.
@@ -117,34 +125,11 @@ impl Writes {
         self.latest.names()
     }
 
-    // Drops the writes up to the clock, each in logarithmic time.
+    // Drops the writes up to the clock, in time linear in the writes.
     pub fn forget(&mut self, clock: u64)
         ensures { IsForgottenUpTo clock self.old self.new }
     {
         self.latest.forget(clock);
-        forget_up_to(&mut self.by_clock, clock);
-    }
-}
-
-// Drops the entries up to the clock.
-fn forget_up_to(writes: &mut BTreeMap<u64, WriteRec>, clock: u64)
-    ensures { IsForgottenUpTo clock writes.old.entries writes.new.entries }
-{
-    while let Some(first) = first_up_to(writes, clock) {
-        writes.remove(&first);
-    }
-}
-
-// The first clock, if it is not above this one.
-fn first_up_to(writes: &BTreeMap<u64, WriteRec>, clock: u64) -> Option<u64>
-    ensures within { IfSome result (λ c. (c ≤ clock) × IsSome (at_clock writes.now.entries c)) }
-    ensures none { IfNone result ((c : ℕ) → IsLeBy nat_cmp c clock → at_clock writes.now.entries c ≡ None) }
-{
-    match writes
-        .range((Bound::Unbounded, Bound::Included(clock)))
-        .next()
-    {
-        Some((first, _)) => Some(*first),
-        None => None,
+        self.by_clock.forget(clock);
     }
 }

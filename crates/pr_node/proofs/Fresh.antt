@@ -23,7 +23,7 @@ none_either : (b : Bool) → let none : Option Mark = None in none ≡ cond b no
 none_either true = refl
 none_either false = refl
 
-pub fresh_tied : (n : ℕ) (j : List Entry) (s : Stores) (sets : List (List Span)) → j ≡ [] → AreApart sets → IsNewLog s.log n → IsNew s.gaps n sets → s.bodies ≡ record { bodies = []; spent = false } → s.marks ≡ record { rows = []; floor = zero_vector; spent = false } → IsTied n j s
+pub fresh_tied : (n : ℕ) (j : List Entry) (s : Stores) (sets : List (List Span)) → j ≡ [] → AreApart sets → IsNewLog s.log n → IsNew s.gaps n sets → s.bodies ≡ record { rows = []; spent = false } → s.marks ≡ record { rows = []; floor = zero_vector; spent = false } → IsTied n j s
 fresh_tied n j s sets empty apart log gaps bodies marks = subst (λ (x : List Entry). IsTied n x s) (sym empty) (record {
   log = record {
     own = log.at;

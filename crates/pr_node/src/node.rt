@@ -253,7 +253,8 @@ impl Node {
         Ok(at)
     }
 
-    /// Drops the bodies of a name, each in time logarithmic in the bodies held. It takes no memory but for the entry.
+    /// Drops the bodies of a name, in time logarithmic in the names and linear in its bodies. It takes no memory but for
+    /// the entry.
     pub fn drop_body(&mut self, caller: u32, name: &Name) -> Result<(), NodeFault>
         ensures ok { IfOk result (λ _. AddsAlone (means self.old) (means self.new) caller (λ e. e.event ≡ Dropped name.now)) }
         ensures fault { IfErr result (IsFault (means self.old) (means self.new) (IsTimeWorn (means self.old) 0)) }
@@ -268,7 +269,7 @@ impl Node {
     }
 
     /// The newest write to a name, by what the node was told, for a node that is not spent. It takes no memory, and
-    /// time linear in the sets and logarithmic in the names and bodies.
+    /// time linear in the sets and logarithmic in the names.
     pub fn look(&self, name: &Name) -> Answer<'_>
         requires { (means self.now).spent ≡ false }
         ensures { IsAnswerAt (means self.now) name.now (reply_of result) }

@@ -1,19 +1,19 @@
-use Rattle.std.proofs.Common.{◌≡◌, None, sym, ◌∙◌, subst, ◌&&◌}
-use Rattle.std.specs.BTreeMap.{get}
-use Rattle.std.specs.Str.{bytes_eq}
-use Rattle.pr_stamps.specs.Point.{is_before}
-use Rattle.pr_bodies.specs.Keys.{key_at, key_cmp}
-use Rattle.pr_bodies.proofs.Keyed.{held_at, stays, left_at, gone_or_kept, both, same_name}
+use Rattle.std.proofs.Common.{rules, List, ℕ, None, cond, refl, subst, sym, ap, ◌∙◌, IsSome}
+use Rattle.std.specs.BTreeMap.{BTreeMap}
+use Rattle.pr_stamps.specs.Point.{Point, is_before}
+use Rattle.pr_bodies.proofs.Rows.{absent, changed, found_row, row_by}
 use Rattle.pr_bodies.proofs.bodies.Bodies.settle.Goals as goal
-
-pub loop-key-preserved-in-Some : goal.loop-key-preserved-in-Some
-loop-key-preserved-in-Some c = record {
-  kept = λ o t out. left_at _ _ _ _ (c.remove.ensures.updates.0 (key_at o t)) (stays c.in-Some.key c.args.name.now o c.args.stamp.now t c.in-Some.ensures.name c.in-Some.ensures.before out) (c.loop-key.invariant.kept o t out);
-  spent = c.loop-key.invariant.spent;
-}
+use Rattle.pr_bodies.proofs.bodies.Bodies.settle.Goals.{in-Some, in_default}
 
 pub returns-clause-settled : goal.returns-clause-settled
-returns-clause-settled c o t =
-    rw (← c.self.view_is) (gone_or_kept (bytes_eq c.args.name.now o && is_before t c.args.stamp.now) _ _
-    (λ test. held_at o t c.loop-key.self-inside.bodies.entries ∙ subst (λ n. get key_cmp c.loop-key.self-inside.bodies (key_at n t) ≡ None) (sym (same_name c.args.name.now o (both _ _ test).0)) (c.in_default.ensures.none t (both _ _ test).1))
-    (λ test. held_at o t c.loop-key.self-inside.bodies.entries ∙ c.loop-key.invariant.kept o t test ∙ sym (held_at o t c.self.inside.bodies.entries)))
+returns-clause-settled c o t = elim c.match-get_mut.branch [
+  | in-Some w ↦
+      rw (w.self-inside-is, ← c.self.view_is) (
+      changed c.self.inside.rows.entries (c.get_mut.follows.lender w.settle.new.self).entries c.args.name.now w.settle.new.self (λ s. is_before s c.args.stamp.now) None
+      (λ q. search (rules, ((c.get_mut.follows.holds w.settle.new.self).3 (subst IsSome w.in-Some.ensures.value refl)).0 q))
+      (λ s. w.settle.ensures s ∙ ap (cond (is_before s c.args.stamp.now) None) (sym (found_row (row_by c.self.inside.rows.entries c.args.name.now) w.in-Some.row.now s (sym w.in-Some.ensures.value))))
+      o t)
+  | in_default w ↦
+      rw (w.self-inside-is, ← c.self.view_is, c.get_mut.follows.holds-at-none) (
+      absent c.self.inside.rows.entries c.args.name.now (λ s. is_before s c.args.stamp.now) (sym w.in_default.ensures.value) o t)
+]

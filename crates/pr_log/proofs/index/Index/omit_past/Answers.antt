@@ -1,10 +1,10 @@
-use Rattle.std.proofs.Common.{arith}
+use Rattle.std.proofs.lemmas.Result.{on_ok_weaker}
 use Rattle.pr_log.specs.Sets.{is_gathered}
-use Rattle.pr_log.proofs.Past.{omit_past_more}
+use Rattle.pr_log.proofs.Past.{omit_rest}
 use Rattle.pr_log.proofs.index.Index.omit_past.Goals as goal
 
-pub loop-write-preserved : goal.loop-write-preserved
-loop-write-preserved c = record {
-  from = omega (arith, c.loop-write.invariant.from, c.in-Some.ensures.2, c.clock-clock.ensures.clock);
-  names = λ o name. omit_past_more c.args.self.now c.args.sub.now c.args.writer c.args.from c.loop-write.clock c.clock-clock.result c.in-Some.write o (is_gathered c.add_outside.new.names o) (is_gathered c.loop-write.names o) (is_gathered c.args.names.now o) c.clock-clock.ensures.clock c.loop-write.invariant.from c.in-Some.ensures (c.in_ok-add_outside.ensures o name) (c.loop-write.invariant.names o name);
-}
+pub returns : goal.returns
+returns c =
+    on_ok_weaker c.omit_above.result (λ each o name.
+    omit_rest c.args.self.now c.args.sub.now c.args.writer c.args.from c.loop.clock c.args.to o (is_gathered c.args.names.now o) (is_gathered c.loop.names o) (is_gathered c.omit_above.new.names o) c.requires.end c.loop.invariant.from c.loop.invariant.within (c.loop.invariant.names o name) (each o name))
+    c.omit_above.ensures

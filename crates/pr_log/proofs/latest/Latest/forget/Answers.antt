@@ -1,13 +1,13 @@
-use Rattle.std.proofs.Common.{rules, ◌∙◌, arith}
-use Rattle.pr_log.specs.Known.{at_clock}
-use Rattle.pr_log.proofs.Clocks.{taken_out}
-use Rattle.pr_log.proofs.LastWrites.{clocks_taken}
+use Rattle.std.proofs.Common.{rules, nat_lt}
+use Rattle.std.specs.Cmp.Lexicographic.{slice_cmp}
+use Rattle.std.specs.Ordering.{nat_cmp}
+use Rattle.std.proofs.lemmas.Map.Keys.{IsDistinct-from_sorted}
+use Rattle.std.proofs.lemmas.Map.Made.{filter_same_pairs}
+use Rattle.pr_log.proofs.LastClocks.{left_above}
 use Rattle.pr_log.proofs.latest.Latest.forget.Goals as goal
 
-pub loop-first-preserved : goal.loop-first-preserved
-loop-first-preserved c = record {
-  clocks = clocks_taken c.loop-first.self-inside.clocks.entries _ c.loop-first.self-inside.writes.entries _ c.in-Some.first c.in-Some.ensures.entry.0 c.in-Some.name c.loop-first.invariant.clocks c.in-Some.ensures.entry.1 c.in-Some.ensures.entry.2 c.remove.ensures.updates.0 (λ o. search (rules, c.remove-in-Some.ensures.updates.0 o));
-  kept = λ k above.
-      taken_out c.in-Some.first k (at_clock c.loop-first.self-inside.writes.entries k) _ (c.remove.ensures.updates.0 k) (λ e. omega (arith, e, c.in-Some.ensures.within, above))
-      ∙ c.loop-first.invariant.kept k above;
-}
+pub returns : goal.returns
+returns c =
+    rw (← c.self.view_is) (
+    left_above c.args.clock c.self.inside.clocks.entries c.retain.new.self.entries (IsDistinct-from_sorted (slice_cmp nat_cmp) _ c.retain.ensures.was_ordered)
+    (filter_same_pairs _ (λ e. nat_lt c.args.clock e.1) _ (λ k v b w f' t. search rules) _ _ c.retain.ensures.filtered))
