@@ -16,6 +16,7 @@ use Rattle.pr_names.proofs.Bytes.{allowed_most}
 use Rattle.pr_names.proofs.Place.{place_in, place}
 use Rattle.pr_names.proofs.Places.{cmp_place, cmp_step, leads, power_positive}
 
+-- each number is a byte
 abbrev Bytes : List ℕ → Type 0
 Bytes xs = (i : ℕ) → get_or xs i 0 < 256
 
@@ -60,11 +61,12 @@ eight (a ∷ b ∷ c ∷ d ∷ e ∷ f ∷ []) p = absurd (omega arith)
 eight (a ∷ b ∷ c ∷ d ∷ e ∷ f ∷ g ∷ []) p = absurd (omega arith)
 eight (a ∷ b ∷ c ∷ d ∷ e ∷ f ∷ g ∷ h ∷ xs) p = omega arith
 
--- the number of one word of the bytes
-abbrev pub word_at : List ℕ → ℕ → ℕ
+-- the number of the bytes' word i
+abbrev word_at : List ℕ → ℕ → ℕ
 word_at xs i = from_be_bytes w64 (take 8 (drop (8 * i) xs))
 
-abbrev pub from_word : List ℕ → List ℕ → ℕ → Ordering
+-- the order of all bytes from word i on
+abbrev from_word : List ℕ → List ℕ → ℕ → Ordering
 from_word xs ys i = slice_cmp nat_cmp (drop (8 * i) xs) (drop (8 * i) ys)
 
 pub decided : (o r s : Ordering) → s ≡ ordering_then o r → is_ne o ≡ true → o ≡ s
@@ -94,7 +96,7 @@ module _ (xs ys : List ℕ) (g : Bytes xs) (h : Bytes ys) (p : length xs ≡ 64)
   next_word i l v w o e f t = one_word i l ∙ ap (λ r. ordering_then r (from_word xs ys (i + 1))) (sym (t ∙ rw (e, f) refl))
 
   -- all 64 bytes, as numbers
-  pub whole : slice_cmp nat_cmp xs ys ≡ nat_cmp (place_in 64 xs) (place_in 64 ys)
+  whole : slice_cmp nat_cmp xs ys ≡ nat_cmp (place_in 64 xs) (place_in 64 ys)
   whole = front 64 xs ys (omega arith) (omega arith) g h ∙ end (nat_cmp (place_in 64 xs) (place_in 64 ys)) _ none
     where
       none : slice_cmp nat_cmp (drop 64 xs) (drop 64 ys) ≡ Equal

@@ -3,6 +3,7 @@
 
 mod bound;
 mod byte;
+mod eights;
 mod fault;
 mod interval;
 mod law;
@@ -10,7 +11,6 @@ mod name;
 #[cfg(test)]
 mod tests;
 mod text;
-mod words;
 
 pub use bound::Bound;
 pub use fault::IntervalFault;

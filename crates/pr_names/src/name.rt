@@ -16,7 +16,7 @@ ghost use Rattle.std.proofs.lemmas.Cmp.{nat_list_cmp_total, nat_list_eq_equiv};
 ghost use Rattle.std.specs.Cmp.{partial_equiv_from_equiv};
 ghost use lib.Pointwise.{pointwise};
 
-use crate::{Bound, byte, words};
+use crate::{Bound, byte, eights};
 use std::cmp::Ordering;
 use std::hash::{Hash, Hasher};
 use std::marker::Model;
@@ -154,7 +154,7 @@ impl Ord for Name {
     ghost matches_eq = { texts_ties };
 
     fn cmp(&self, other: &Name) -> Ordering {
-        words::order(&self.bytes, &other.bytes)
+        eights::order(&self.bytes, &other.bytes)
     }
 }
 

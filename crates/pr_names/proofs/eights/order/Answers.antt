@@ -1,6 +1,6 @@
 use Rattle.std.proofs.Common.{◌∙◌, sym}
 use Rattle.pr_names.proofs.Spelled.{decided, next_word, passed}
-use Rattle.pr_names.proofs.words.order.Goals as goal
+use Rattle.pr_names.proofs.eights.order.Goals as goal
 
 pub returns-then-is_ne : goal.returns-then-is_ne
 returns-then-is_ne c =
