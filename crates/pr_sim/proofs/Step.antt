@@ -1,7 +1,7 @@
 -- One call of one node, and what the engine stands for then.
 use Rattle.std.proofs.Common.{◌≡◌, ◌≢◌, ◌⊎◌, ℕ, ◌<◌, ◌≤◌, List, [], ◌∷◌, ◌++◌, inl, inr, refl, sym, ◌∙◌, ap, subst, cond, nat_eq, length, get_or, set, arith, reverse}
 use Rattle.std.specs.Prelude.{true, false, Bool, IsTrue, Some, None, Option}
-use Rattle.std.proofs.lemmas.List.{get_or_past, get_or-set_same, get_or-set_other, length-set, length-reverse}
+use Rattle.std.proofs.lemmas.List.{get_or_default, get_or_past, get_or-set_same, get_or-set_other, length-set, length-reverse}
 use Rattle.std.proofs.lemmas.Bool.Decides.{Decides-eqb}
 use Rattle.std.proofs.lemmas.Bool.{cases_lt}
 use Rattle.pr_inval.specs.declared.msg.Msg.{Msg}
@@ -39,16 +39,24 @@ some_is x y o a b = let e : Some x ≡ Some y = sym a ∙ b in cc
 -- ---- the nodes
 
 abbrev pub put : {X : Type 0} → List (Option X) → ℕ → X → List (Option X)
-put nodes n m = set (set nodes n None) n (Some m)
+put nodes n m = set nodes n (Some m)
 
 pub length_put : {X : Type 0} (nodes : List (Option X)) (n : ℕ) (m : X) → length (put nodes n m) ≡ length nodes
-length_put nodes n m = length-set (set nodes n None) n (Some m) ∙ length-set nodes n None
+length_put nodes n m = length-set nodes n (Some m)
 
 pub here : {X : Type 0} (nodes : List (Option X)) (n : ℕ) (m : X) → n < length nodes → get_or (put nodes n m) n None ≡ Some m
-here nodes n m lt = get_or-set_same (set nodes n None) n (Some m) None (let e : length (set nodes n None) ≡ length nodes = length-set nodes n None in omega arith)
+here nodes n m lt = get_or-set_same nodes n (Some m) None lt
 
 pub there : {X : Type 0} (nodes : List (Option X)) (n k : ℕ) (m : X) → k ≢ n → get_or (put nodes n m) k None ≡ get_or nodes k None
-there nodes n k m other = get_or-set_other (set nodes n None) n k (Some m) None other ∙ get_or-set_other nodes n k None None other
+there nodes n k m other = get_or-set_other nodes n k (Some m) None other
+
+-- what is read of the place is what stands there
+pub stood : {X : Type 0} (nodes : List (Option X)) (n : ℕ) (read : Option X) (m : X) → n < length nodes → read ≡ get_or nodes n read → read ≡ Some m → get_or nodes n None ≡ Some m
+stood nodes n read m lt of is = get_or_default nodes n None read lt ∙ sym of ∙ is
+
+-- so it is not nothing where something does
+pub never_empty : {X : Type 0} (nodes : List (Option X)) (n : ℕ) (read : Option X) (x : X) → n < length nodes → read ≡ get_or nodes n read → get_or nodes n None ≡ Some x → read ≡ None → ⊥
+never_empty nodes n read x lt of was none = let e : None ≡ Some x = sym none ∙ of ∙ get_or_default nodes n read None lt ∙ was in cc
 
 pub is_node_of : (plan : Plan) (h : List NodeEntry) (nodes : List (Option Stored)) (n : ℕ) (m : Stored) → AreNodes plan h nodes → n < length nodes → get_or nodes n None ≡ Some m → IsNode plan h n m
 is_node_of plan h nodes n m are lt was =
@@ -85,9 +93,6 @@ within_of nodes n m was = by (cases_lt n (length nodes))
     by : (n < length nodes) ⊎ (length nodes ≤ n) → n < length nodes
     by (inl within) = within
     by (inr past) = let none : get_or nodes n None ≡ None = get_or_past nodes n None past in absurd (cc)
-
-pub replaced : {X : Type 0} (nodes took gave : List (Option X)) (n : ℕ) (m : X) → took ≡ set nodes n None → gave ≡ set took n (Some m) → gave ≡ put nodes n m
-replaced {X = X} nodes took gave n m out back = back ∙ ap (λ (xs : List (Option X)). set xs n (Some m)) out
 
 pub place_len : (a b : List Entry) → reverse a ≡ reverse b → length a ≡ length b
 place_len a b e = sym (length-reverse a) ∙ ap (λ (xs : List Entry). length xs) e ∙ length-reverse b

@@ -6,7 +6,7 @@ ghost use Rattle.pr_story.specs.Commands.{ToMove, ToRead, ToWrite};
 ghost use Rattle.std.specs.Prelude.{◌≡◌, ◌<◌, ◌≤◌, [], false, true, length};
 
 use crate::engine::{CALLER, Engine};
-use crate::slots::{give, number, take, vector};
+use crate::slots::{number, vector};
 use pr_inval::NodeFault;
 use pr_names::Name;
 use pr_node::{Done, Seen};
@@ -21,11 +21,11 @@ impl Engine {
         ensures { ForEachRun self.old (λ d attached h. GivesOne (ToMove client node) d attached h self.new result) }
     {
         self.history.reserve(1)?;
-        let mut at = take(&mut self.nodes, node);
+        let Some(at) = &mut self.nodes[node as usize] else {
+            unreachable!()
+        };
         let place = at.journal().len();
-        let answer = at.moved(CALLER, client);
-        give(&mut self.nodes, node, at);
-        answer?;
+        at.moved(CALLER, client)?;
         self.history.push((node, place));
         self.homes[client as usize] = node;
         Ok(())
@@ -41,12 +41,12 @@ impl Engine {
         let node = number(&self.homes, client);
         let seen = vector(&self.seen, client);
         self.history.reserve(1)?;
-        let mut at = take(&mut self.nodes, node);
+        let Some(at) = &mut self.nodes[node as usize] else {
+            unreachable!()
+        };
         let place = at.journal().len();
-        let answer = at.write(CALLER, client, name, body, &seen);
+        let done = at.write(CALLER, client, name, body, &seen)?;
         let now = at.vector();
-        give(&mut self.nodes, node, at);
-        let done = answer?;
         self.history.push((node, place));
         self.seen[client as usize] = seen_then(&done, &seen, &now);
         Ok(())
@@ -61,12 +61,12 @@ impl Engine {
         let node = number(&self.homes, client);
         let seen = vector(&self.seen, client);
         self.history.reserve(1)?;
-        let mut at = take(&mut self.nodes, node);
+        let Some(at) = &mut self.nodes[node as usize] else {
+            unreachable!()
+        };
         let place = at.journal().len();
-        let answer = at.delete(CALLER, client, name, &seen);
+        let done = at.delete(CALLER, client, name, &seen)?;
         let now = at.vector();
-        give(&mut self.nodes, node, at);
-        let done = answer?;
         self.history.push((node, place));
         self.seen[client as usize] = seen_then(&done, &seen, &now);
         Ok(())
@@ -81,12 +81,12 @@ impl Engine {
         let node = number(&self.homes, client);
         let seen = vector(&self.seen, client);
         self.history.reserve(1)?;
-        let mut at = take(&mut self.nodes, node);
+        let Some(at) = &mut self.nodes[node as usize] else {
+            unreachable!()
+        };
         let place = at.journal().len();
-        let answer = at.read(CALLER, client, name, &seen);
+        let answered = at.read(CALLER, client, name, &seen)?;
         let now = at.vector();
-        give(&mut self.nodes, node, at);
-        let answered = answer?;
         self.history.push((node, place));
         self.seen[client as usize] = seen_now(&answered, &seen, &now);
         Ok(())

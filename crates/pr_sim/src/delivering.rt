@@ -11,7 +11,7 @@ ghost use Rattle.std.specs.Prelude.{◌≡◌, ◌≢◌, ◌<◌, length};
 
 use crate::engine::{CALLER, Engine};
 use crate::messages::{again, place_of};
-use crate::slots::{give, route, take};
+use crate::slots::route;
 use pr_inval::{Msg, NodeFault, Taken};
 
 impl Engine {
@@ -41,11 +41,11 @@ impl Engine {
     {
         let node = route(&self.routes, stream).destination;
         self.history.reserve(1)?;
-        let mut at = take(&mut self.nodes, node);
+        let Some(at) = &mut self.nodes[node as usize] else {
+            unreachable!()
+        };
         let place = at.journal().len();
-        let answer = at.missing(CALLER, stream, number);
-        give(&mut self.nodes, node, at);
-        answer?;
+        at.missing(CALLER, stream, number)?;
         self.history.push((node, place));
         Ok(())
     }
@@ -59,15 +59,16 @@ impl Engine {
     {
         let node = route(&self.routes, stream).destination;
         self.history.reserve(1)?;
-        let mut at = take(&mut self.nodes, node);
+        let Some(at) = &mut self.nodes[node as usize] else {
+            unreachable!()
+        };
         let place = at.journal().len();
-        let answer = at.accept(CALLER, msg);
-        give(&mut self.nodes, node, at);
-        let taken = answer?;
+        let taken = at.accept(CALLER, msg)?;
         self.history.push((node, place));
-        let mut session = take(&mut self.sessions, stream);
+        let Some(session) = &mut self.sessions[stream as usize] else {
+            unreachable!()
+        };
         session.heard(time_of(&taken));
-        give(&mut self.sessions, stream, session);
         Ok(taken)
     }
 }

@@ -15,7 +15,7 @@ ghost use Rattle.pr_wire.specs.declared.format.Format.TheVariants.{Two};
 ghost use Rattle.std.specs.Prelude.{◌≡◌, ◌<◌, ◌+◌, ℕ, IsTrue, None, Some, length};
 
 use crate::engine::{CALLER, Engine};
-use crate::slots::{give, route, take};
+use crate::slots::route;
 use pr_flow::{Carried, FlowEnd, Stop, carry};
 use pr_inval::{Msg, NodeFault, Step, Taken};
 use pr_story::Cause;
@@ -151,13 +151,14 @@ impl Engine {
     {
         let node = route(&self.routes, stream).destination;
         self.history.reserve(1)?;
-        let mut at = take(&mut self.nodes, node);
-        let mut session = take(&mut self.sessions, stream);
+        let Some(at) = &mut self.nodes[node as usize] else {
+            unreachable!()
+        };
+        let Some(session) = &mut self.sessions[stream as usize] else {
+            unreachable!()
+        };
         let place = at.journal().len();
-        let answer = at.down(CALLER, &mut session, cause);
-        give(&mut self.sessions, stream, session);
-        give(&mut self.nodes, node, at);
-        answer?;
+        at.down(CALLER, session, cause)?;
         self.history.push((node, place));
         Ok(())
     }

@@ -5,7 +5,6 @@ ghost use Rattle.pr_story.specs.Commands.{ToCut, ToDrop, ToFindConflicts, ToTell
 ghost use Rattle.std.specs.Prelude.{◌<◌, length};
 
 use crate::engine::{CALLER, Engine};
-use crate::slots::{give, take};
 use pr_inval::NodeFault;
 use pr_names::Name;
 
@@ -17,11 +16,11 @@ impl Engine {
         ensures { ForEachRun self.old (λ d attached h. GivesOne (ToCut node) d attached h self.new result) }
     {
         self.history.reserve(1)?;
-        let mut at = take(&mut self.nodes, node);
+        let Some(at) = &mut self.nodes[node as usize] else {
+            unreachable!()
+        };
         let place = at.journal().len();
-        let answer = at.cut(CALLER);
-        give(&mut self.nodes, node, at);
-        let _ = answer?;
+        let _ = at.cut(CALLER)?;
         self.history.push((node, place));
         Ok(())
     }
@@ -33,11 +32,11 @@ impl Engine {
         ensures { ForEachRun self.old (λ d attached h. GivesOne (ToDrop node name.now) d attached h self.new result) }
     {
         self.history.reserve(1)?;
-        let mut at = take(&mut self.nodes, node);
+        let Some(at) = &mut self.nodes[node as usize] else {
+            unreachable!()
+        };
         let place = at.journal().len();
-        let answer = at.drop_body(CALLER, name);
-        give(&mut self.nodes, node, at);
-        answer?;
+        at.drop_body(CALLER, name)?;
         self.history.push((node, place));
         Ok(())
     }
@@ -49,11 +48,11 @@ impl Engine {
         ensures { ForEachRun self.old (λ d attached h. GivesOne (ToFindConflicts node name.now) d attached h self.new result) }
     {
         self.history.reserve(1)?;
-        let mut at = take(&mut self.nodes, node);
+        let Some(at) = &mut self.nodes[node as usize] else {
+            unreachable!()
+        };
         let place = at.journal().len();
-        let answer = at.conflicts(CALLER, name);
-        give(&mut self.nodes, node, at);
-        let _ = answer?;
+        let _ = at.conflicts(CALLER, name)?;
         self.history.push((node, place));
         Ok(())
     }
@@ -65,11 +64,11 @@ impl Engine {
         ensures { ForEachRun self.old (λ d attached h. GivesOne (ToTellState node) d attached h self.new result) }
     {
         self.history.reserve(1)?;
-        let mut at = take(&mut self.nodes, node);
+        let Some(at) = &mut self.nodes[node as usize] else {
+            unreachable!()
+        };
         let place = at.journal().len();
-        let answer = at.state(CALLER);
-        give(&mut self.nodes, node, at);
-        answer?;
+        at.state(CALLER)?;
         self.history.push((node, place));
         Ok(())
     }

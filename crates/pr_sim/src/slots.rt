@@ -1,4 +1,4 @@
-// Values that are taken out of a list and given back.
+// What stands at a place of a list.
 ghost use Rattle.pr_node.specs.Scanning.{fresh};
 ghost use Rattle.pr_sim.specs.declared.engine.Route.{Route};
 ghost use Rattle.pr_stamps.specs.Kept.{Kept};
@@ -71,24 +71,4 @@ pub fn begin(scans: &mut Vec<Scan>, stream: u32)
     ensures { scans.new.items ≡ slice_set scans.old.items stream fresh }
 {
     scans[stream as usize].begin();
-}
-
-// Takes the value that stands there.
-pub fn take<T>(slots: &mut Vec<Option<T>>, at: u32) -> T
-    requires { (x : T) × (slice_index_or slots.old.items at None ≡ Some x) }
-    ensures was { slice_index_or slots.old.items at None ≡ Some result }
-    ensures out { slots.new.items ≡ slice_set slots.old.items at None }
-{
-    match slots[at as usize].take() {
-        Some(value) => value,
-        None => unreachable!(),
-    }
-}
-
-// Puts a value there.
-pub fn give<T: Drop>(slots: &mut Vec<Option<T>>, at: u32, value: T)
-    requires { at < length slots.old.items }
-    ensures { slots.new.items ≡ slice_set slots.old.items at (Some value) }
-{
-    slots[at as usize] = Some(value);
 }

@@ -6,7 +6,7 @@ ghost use Rattle.pr_story.specs.Scripts.{Detach, attached_after};
 ghost use Rattle.std.specs.Prelude.{◌<◌, length};
 
 use crate::engine::{CALLER, Engine};
-use crate::slots::{begin, give, note, note_step, room_for, route, take};
+use crate::slots::{begin, note, note_step, room_for, route};
 use pr_inval::{Msg, NodeFault, Step};
 
 impl Engine {
@@ -18,13 +18,14 @@ impl Engine {
     {
         let node = route(&self.routes, stream).destination;
         self.history.reserve(1)?;
-        let mut at = take(&mut self.nodes, node);
-        let mut session = take(&mut self.sessions, stream);
+        let Some(at) = &mut self.nodes[node as usize] else {
+            unreachable!()
+        };
+        let Some(session) = &mut self.sessions[stream as usize] else {
+            unreachable!()
+        };
         let place = at.journal().len();
-        let answer = at.attach(CALLER, &mut session);
-        give(&mut self.sessions, stream, session);
-        give(&mut self.nodes, node, at);
-        let _ = answer?;
+        let _ = at.attach(CALLER, session)?;
         begin(&mut self.scans, stream);
         self.history.push((node, place));
         Ok(())
@@ -36,9 +37,10 @@ impl Engine {
         requires stream { stream < length self.old.sessions.items }
         ensures { ForEachRun self.old (λ d attached h. IsRunning d (attached_after (Detach stream) attached) h self.new) }
     {
-        let mut session = take(&mut self.sessions, stream);
+        let Some(session) = &mut self.sessions[stream as usize] else {
+            unreachable!()
+        };
         session.detach();
-        give(&mut self.sessions, stream, session);
     }
 
     /// Makes a turn of an attached stream, at its source, in the time of the node's `turn_from`.
@@ -51,14 +53,15 @@ impl Engine {
         let node = route(&self.routes, stream).source;
         self.history.reserve(1)?;
         room_for(&mut self.sent, stream as usize, 1)?;
-        let mut at = take(&mut self.nodes, node);
-        let mut session = take(&mut self.sessions, stream);
+        let Some(at) = &mut self.nodes[node as usize] else {
+            unreachable!()
+        };
+        let Some(session) = &mut self.sessions[stream as usize] else {
+            unreachable!()
+        };
         let place = at.journal().len();
         let scan = &mut self.scans[stream as usize];
-        let answer = at.turn_from(CALLER, &mut session, scan);
-        give(&mut self.sessions, stream, session);
-        give(&mut self.nodes, node, at);
-        let step = answer?;
+        let step = at.turn_from(CALLER, session, scan)?;
         self.history.push((node, place));
         note_step(&mut self.sent, stream, &step, place);
         Ok(step)
@@ -85,13 +88,14 @@ impl Engine {
         let node = route(&self.routes, stream).source;
         self.history.reserve(1)?;
         room_for(&mut self.sent, stream as usize, 1)?;
-        let mut at = take(&mut self.nodes, node);
-        let mut session = take(&mut self.sessions, stream);
+        let Some(at) = &mut self.nodes[node as usize] else {
+            unreachable!()
+        };
+        let Some(session) = &mut self.sessions[stream as usize] else {
+            unreachable!()
+        };
         let place = at.journal().len();
-        let answer = at.checkpoint(CALLER, &mut session);
-        give(&mut self.sessions, stream, session);
-        give(&mut self.nodes, node, at);
-        let msg = answer?;
+        let msg = at.checkpoint(CALLER, session)?;
         self.history.push((node, place));
         note(&mut self.sent, stream, place);
         Ok(msg)

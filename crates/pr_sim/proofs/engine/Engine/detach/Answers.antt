@@ -1,12 +1,17 @@
 use Rattle.std.proofs.Common.{refl}
-use Rattle.pr_sim.proofs.Step.{replaced}
+use Rattle.pr_sim.proofs.Step.{never_empty, stood}
 use Rattle.pr_sim.proofs.OfStreams.{detach_ends}
+use Rattle.std.specs.Vec.{with_item}
+use Rattle.std.specs.Prelude.{Some}
 use Rattle.pr_sim.proofs.engine.Engine.detach.Goals as goal
 
-pub take-session-requires : goal.take-session-requires
-take-session-requires c = let x = c.requires.kept.3.stands.sessions c.args.stream c.requires.stream in (x.0, x.1)
+pub unreachable-requires : goal.unreachable-requires
+unreachable-requires c =
+    let x = c.requires.kept.3.stands.sessions c.args.stream c.requires.stream in
+    never_empty _ _ _ x.0 c.requires.stream c.index_mut.ensures.value x.1 c.in_default.is
 
 pub returns : goal.returns
 returns c d attached h k =
-    detach_ends d attached h c.args.self.now (record c.args.self.now { sessions = c.give.new.slots }) c.args.stream c.take-session.result c.detach.new.self k c.requires.stream c.take-session.ensures.was
-    (replaced _ _ _ c.args.stream c.detach.new.self c.take-session.ensures.out c.give.ensures) c.detach.ensures refl refl refl refl refl refl refl
+    let held = stood _ _ _ _ c.requires.stream c.index_mut.ensures.value c.in-Some.is in
+    detach_ends d attached h c.args.self.now (record c.args.self.now { sessions = with_item c.args.self.now.sessions c.args.stream (Some c.detach.new.self) }) c.args.stream c.in-Some.session c.detach.new.self k c.requires.stream held
+    refl c.detach.ensures refl refl refl refl refl refl refl

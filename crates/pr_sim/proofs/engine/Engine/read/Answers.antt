@@ -9,8 +9,9 @@ use Rattle.pr_sim.specs.Commands.{GivesIt}
 use Rattle.pr_node.proofs.OfClients.{read_seen_is, seen_is_of}
 use Rattle.pr_sim.proofs.Ending.{client_ends}
 use Rattle.pr_sim.proofs.Faults.{no_memory, not_made, same_journal, stopped_same, stopped_still, this_cause, time_is_worn}
-use Rattle.pr_sim.proofs.Step.{place_len, replaced, within_of}
+use Rattle.pr_sim.proofs.Step.{never_empty, place_len, stood, within_of}
 use Rattle.pr_sim.proofs.Step.{is_node_of}
+use Rattle.std.specs.Prelude.{Some}
 use Rattle.pr_sim.proofs.engine.Engine.read.Goals as goal
 
 pub returns-in_err-reserve : goal.returns-in_err-reserve
@@ -18,32 +19,35 @@ returns-in_err-reserve c d attached h k =
     let f = record c.args.self.now { history = c.reserve.new.self } in
     not_made d attached h (GivesIt (ToRead c.args.client c.args.name.now)) f _ c.from_residual.result c.from_residual.ensures.1 (no_memory h) (stopped_same d attached h c.args.self.now f k refl c.reserve.ensures.items)
 
-pub take-at-requires : goal.take-at-requires
-take-at-requires c =
-    let k = c.requires.kept.3.stands in
-    let x = k.nodes.each c.number-node.result (subst (λ i. i < length c.args.self.now.nodes.items) (sym c.number-node.ensures) (k.clients.at c.args.client c.requires.client)) in (x.0, x.1)
+pub unreachable-requires : goal.unreachable-requires
+unreachable-requires c =
+    let within = subst (λ i. i < length c.args.self.now.nodes.items) (sym c.number-node.ensures) (c.requires.kept.3.stands.clients.at c.args.client c.requires.client) in
+    let x = c.requires.kept.3.stands.nodes.each c.number-node.result within in
+    never_empty _ _ _ x.0 within c.index_mut.ensures.value x.1 c.in_default.is
 
 pub returns-in_err-answered : goal.returns-in_err-answered
 returns-in_err-answered c d attached h k =
-    let f = record c.args.self.now { nodes = c.give.new.slots; history = c.reserve.new.self } in
-    let node = is_node_of d.plan h c.args.self.now.nodes.items c.number-node.result c.take-at.result k.stands.nodes (within_of _ c.number-node.result c.take-at.result c.take-at.ensures.was) c.take-at.ensures.was in
+    let was = stood _ _ _ _ (subst (λ i. i < length c.args.self.now.nodes.items) (sym c.number-node.ensures) (k.stands.clients.at c.args.client c.requires.client)) c.index_mut.ensures.value c.in-Some.is in
+    let f = record c.args.self.now { nodes = with_item c.args.self.now.nodes c.number-node.result (Some c.read.new.self); history = c.reserve.new.self } in
+    let node = is_node_of d.plan h c.args.self.now.nodes.items c.number-node.result c.in-Some.at k.stands.nodes (within_of _ c.number-node.result c.in-Some.at was) was in
     not_made d attached h (GivesIt (ToRead c.args.client c.args.name.now)) f _ c.from_residual-in_err-answered.result c.from_residual-in_err-answered.ensures.1
-    (λ fault is. this_cause h c.in_err-answered.field-0.0 fault (time_is_worn d.plan h k.stands.valid _ (means c.take-at.result) (means c.read-answer.new.self) node.journal_is (0) (omega arith) c.in_err-answered.field-0.0 c.in_err-answered.ensures.fault) is)
-    (stopped_still d attached h c.args.self.now f c.number-node.result c.take-at.result c.read-answer.new.self k c.take-at.ensures.was
-    (replaced _ _ _ c.number-node.result c.read-answer.new.self c.take-at.ensures.out c.give.ensures) c.reserve.ensures.items
-    (same_journal (means c.take-at.result) (means c.read-answer.new.self) _ c.in_err-answered.field-0.0 c.in_err-answered.ensures.fault))
+    (λ fault is. this_cause h c.in_err-answered.field-0.0 fault (time_is_worn d.plan h k.stands.valid _ (means c.in-Some.at) (means c.read.new.self) node.journal_is (0) (omega arith) c.in_err-answered.field-0.0 c.in_err-answered.ensures.fault) is)
+    (stopped_still d attached h c.args.self.now f c.number-node.result c.in-Some.at c.read.new.self k was
+    refl c.reserve.ensures.items
+    (same_journal (means c.in-Some.at) (means c.read.new.self) _ c.in_err-answered.field-0.0 c.in_err-answered.ensures.fault))
 
 pub returns : goal.returns
 returns c d attached h k =
+    let was = stood _ _ _ _ (subst (λ i. i < length c.args.self.now.nodes.items) (sym c.number-node.ensures) (k.stands.clients.at c.args.client c.requires.client)) c.index_mut.ensures.value c.in-Some.is in
     let n = c.number-node.result in
     let needs = c.vector-seen.result in
-    let f = record c.args.self.now { nodes = c.give.new.slots; history = c.push.new.self; seen = with_item c.args.self.now.seen c.args.client c.seen_now.result } in
-    client_ends d attached h c.args.self.now f k n c.take-at.result c.read-answer.new.self c.len-place.result
+    let f = record c.args.self.now { nodes = with_item c.args.self.now.nodes c.number-node.result (Some c.read.new.self); history = c.push.new.self; seen = with_item c.args.self.now.seen c.args.client c.seen_now.result } in
+    client_ends d attached h c.args.self.now f k n c.in-Some.at c.read.new.self c.len-place.result
     (record {
-      within = within_of _ n c.take-at.result c.take-at.ensures.was;
-      was = c.take-at.ensures.was;
-      nodes = replaced _ _ _ n c.read-answer.new.self c.take-at.ensures.out c.give.ensures;
-      place_is = c.len-place.ensures ∙ place_len c.journal.result.now.items c.take-at.result.journal.items c.journal.ensures;
+      within = within_of _ n c.in-Some.at was;
+      was = was;
+      nodes = refl;
+      place_is = c.len-place.ensures ∙ place_len c.journal.result.now.items c.in-Some.at.journal.items c.journal.ensures;
       noted = c.push.ensures.items ∙ ap (λ ps. ps ++ (n, c.len-place.result) ∷ []) c.reserve.ensures.items;
     }) 0
     (ToRead c.args.client c.args.name.now) c.args.client c.seen_now.result needs _ refl refl refl refl refl refl c.requires.client c.number-node.ensures (c.vector-seen.ensures zero_vector) c.in_ok-answered.ensures.ok

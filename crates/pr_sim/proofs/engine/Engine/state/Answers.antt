@@ -4,8 +4,10 @@ use Rattle.pr_story.specs.Commands.{ToTellState}
 use Rattle.pr_sim.specs.Commands.{GivesIt}
 use Rattle.pr_sim.proofs.Ending.{quiet_ends_by, state_quiet}
 use Rattle.pr_sim.proofs.Faults.{no_memory, not_made, same_journal, stopped_same, stopped_still, this_cause, time_is_worn}
-use Rattle.pr_sim.proofs.Step.{place_len, replaced, within_of}
+use Rattle.pr_sim.proofs.Step.{never_empty, place_len, stood, within_of}
 use Rattle.pr_sim.proofs.Step.{is_node_of}
+use Rattle.std.specs.Vec.{with_item}
+use Rattle.std.specs.Prelude.{Some}
 use Rattle.pr_sim.proofs.engine.Engine.state.Goals as goal
 
 pub returns-in_err-reserve : goal.returns-in_err-reserve
@@ -13,28 +15,33 @@ returns-in_err-reserve c d attached h k =
     let f = record c.args.self.now { history = c.reserve.new.self } in
     not_made d attached h (GivesIt (ToTellState c.args.node)) f _ c.from_residual.result c.from_residual.ensures.1 (no_memory h) (stopped_same d attached h c.args.self.now f k refl c.reserve.ensures.items)
 
-pub take-at-requires : goal.take-at-requires
-take-at-requires c = let x = c.requires.kept.3.stands.nodes.each c.args.node c.requires.known in (x.0, x.1)
+pub unreachable-requires : goal.unreachable-requires
+unreachable-requires c =
+    let within = c.requires.known in
+    let x = c.requires.kept.3.stands.nodes.each c.args.node within in
+    never_empty _ _ _ x.0 within c.index_mut.ensures.value x.1 c.in_default.is
 
-pub returns-in_err-answer : goal.returns-in_err-answer
-returns-in_err-answer c d attached h k =
-    let f = record c.args.self.now { nodes = c.give.new.slots; history = c.reserve.new.self } in
-    let node = is_node_of d.plan h c.args.self.now.nodes.items c.args.node c.take-at.result k.stands.nodes (within_of _ c.args.node c.take-at.result c.take-at.ensures.was) c.take-at.ensures.was in
-    not_made d attached h (GivesIt (ToTellState c.args.node)) f _ c.from_residual-in_err-answer.result c.from_residual-in_err-answer.ensures.1
-    (λ fault is. this_cause h c.in_err-answer.field-0.0 fault (time_is_worn d.plan h k.stands.valid _ (means c.take-at.result) (means c.state-answer.new.self) node.journal_is (0) (omega arith) c.in_err-answer.field-0.0 c.in_err-answer.ensures.fault) is)
-    (stopped_still d attached h c.args.self.now f c.args.node c.take-at.result c.state-answer.new.self k c.take-at.ensures.was
-    (replaced _ _ _ c.args.node c.state-answer.new.self c.take-at.ensures.out c.give.ensures) c.reserve.ensures.items
-    (same_journal (means c.take-at.result) (means c.state-answer.new.self) _ c.in_err-answer.field-0.0 c.in_err-answer.ensures.fault))
+pub returns-in_err-state : goal.returns-in_err-state
+returns-in_err-state c d attached h k =
+    let was = stood _ _ _ _ (c.requires.known) c.index_mut.ensures.value c.in-Some.is in
+    let f = record c.args.self.now { nodes = with_item c.args.self.now.nodes c.args.node (Some c.state.new.self); history = c.reserve.new.self } in
+    let node = is_node_of d.plan h c.args.self.now.nodes.items c.args.node c.in-Some.at k.stands.nodes (within_of _ c.args.node c.in-Some.at was) was in
+    not_made d attached h (GivesIt (ToTellState c.args.node)) f _ c.from_residual-in_err-state.result c.from_residual-in_err-state.ensures.1
+    (λ fault is. this_cause h c.in_err-state.field-0.0 fault (time_is_worn d.plan h k.stands.valid _ (means c.in-Some.at) (means c.state.new.self) node.journal_is (0) (omega arith) c.in_err-state.field-0.0 c.in_err-state.ensures.fault) is)
+    (stopped_still d attached h c.args.self.now f c.args.node c.in-Some.at c.state.new.self k was
+    refl c.reserve.ensures.items
+    (same_journal (means c.in-Some.at) (means c.state.new.self) _ c.in_err-state.field-0.0 c.in_err-state.ensures.fault))
 
 pub returns : goal.returns
 returns c d attached h k =
-    let f = record c.args.self.now { nodes = c.give.new.slots; history = c.push.new.self } in
-    quiet_ends_by d attached h c.args.self.now f k c.args.node c.take-at.result c.state-answer.new.self c.len-place.result
+    let was = stood _ _ _ _ (c.requires.known) c.index_mut.ensures.value c.in-Some.is in
+    let f = record c.args.self.now { nodes = with_item c.args.self.now.nodes c.args.node (Some c.state.new.self); history = c.push.new.self } in
+    quiet_ends_by d attached h c.args.self.now f k c.args.node c.in-Some.at c.state.new.self c.len-place.result
     (record {
-      within = within_of _ c.args.node c.take-at.result c.take-at.ensures.was;
-      was = c.take-at.ensures.was;
-      nodes = replaced _ _ _ c.args.node c.state-answer.new.self c.take-at.ensures.out c.give.ensures;
-      place_is = c.len-place.ensures ∙ place_len c.journal.result.now.items c.take-at.result.journal.items c.journal.ensures;
+      within = within_of _ c.args.node c.in-Some.at was;
+      was = was;
+      nodes = refl;
+      place_is = c.len-place.ensures ∙ place_len c.journal.result.now.items c.in-Some.at.journal.items c.journal.ensures;
       noted = c.push.ensures.items ∙ ap (λ ps. ps ++ (c.args.node, c.len-place.result) ∷ []) c.reserve.ensures.items;
     }) 0
-    (record { sessions = refl; routes = refl; sent = refl; scans = refl; homes = refl; seen = refl }) (ToTellState c.args.node) _ c.in_ok-answer.ensures.ok (λ entry is. state_quiet d.plan h c.args.node entry.event is)
+    (record { sessions = refl; routes = refl; sent = refl; scans = refl; homes = refl; seen = refl }) (ToTellState c.args.node) _ c.in_ok-state.ensures.ok (λ entry is. state_quiet d.plan h c.args.node entry.event is)
