@@ -25,7 +25,8 @@ pub struct Route {
 }
 
 /// All nodes, streams and clients of a script, and the history: the node of each entry and its place in that node's
-/// journal. After a fault it is stopped: what it did is still told, and no further command is run.
+/// journal. After a fault it is stopped: what it did is still told, and no further command is run. A node, or a stream's
+/// session, is absent only while a job of a phase has it.
 #[derive(Drop)]
 pub struct Engine {
     pub(crate) alloc: Global,
