@@ -122,12 +122,16 @@ WORKLOADS = {
 }
 
 
+# A program is started as ./practi starts the proved one, where the caller sets nothing else.
+ENVIRONMENT = {"GLIBC_TUNABLES": "glibc.malloc.hugetlb=1"} | os.environ
+
+
 class Run:
     """One run: its processor seconds, its greatest resident set in MB, and the lines that it wrote."""
 
     def __init__(self, words, source, out, status, limit):
         begun = time.monotonic()
-        process = subprocess.Popen(words, stdin=source, stdout=out, stderr=subprocess.DEVNULL)
+        process = subprocess.Popen(words, stdin=source, stdout=out, stderr=subprocess.DEVNULL, env=ENVIRONMENT)
         while True:
             pid, ended, use = os.wait4(process.pid, os.WNOHANG)
             if pid:
