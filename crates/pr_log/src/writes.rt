@@ -103,7 +103,7 @@ impl Writes {
 
     // Whether there are more writes above the clock than names, of which the late ones all count.
     pub fn is_much_above(&self, clock: u64) -> bool {
-        self.by_clock.most_above(clock) > self.latest.names()
+        self.last > clock && self.by_clock.most_above(clock) > self.latest.names()
     }
 
     // Adds the names that were written above the clock and are none of these, in time linear in the names.
