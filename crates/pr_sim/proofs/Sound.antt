@@ -1,5 +1,5 @@
 -- Entries over sound wires.
-use Rattle.std.proofs.Common.{◌≡◌, ℕ, List, [], ◌∷◌, ◌++◌, Result, Ok, Err, refl, sym, ◌∙◌, ap, subst, reverse}
+use Rattle.std.proofs.Common.{◌≡◌, ℕ, List, [], ◌∷◌, ◌++◌, Result, Ok, Err, refl, sym, ◌∙◌, subst, reverse}
 use Rattle.std.specs.Prelude.{Bool, false, true, IsTrue}
 use Rattle.std.proofs.lemmas.List.{append_assoc, append_cancel_right, reverse-append, reverse-reverse}
 use Rattle.pr_inval.specs.declared.msg.Msg.{Msg}

@@ -5,8 +5,7 @@ use Rattle.pr_story.specs.Commands.{ToCut}
 use Rattle.pr_sim.specs.Commands.{GivesIt}
 use Rattle.pr_sim.proofs.Ending.{quiet_ends}
 use Rattle.pr_sim.proofs.Faults.{no_memory, not_made, same_journal, stopped_same, stopped_still, this_cause, time_is_worn}
-use Rattle.pr_sim.proofs.Step.{never_empty, place_len, stood, within_of}
-use Rattle.pr_sim.proofs.Step.{is_node_of}
+use Rattle.pr_sim.proofs.Step.{is_node_of, never_empty, place_len, stood}
 use Rattle.std.specs.Vec.{with_item}
 use Rattle.std.specs.Prelude.{Some}
 use Rattle.pr_sim.proofs.engine.Engine.cut.Goals as goal
@@ -24,9 +23,9 @@ unreachable-requires c =
 
 pub returns-in_err-cut : goal.returns-in_err-cut
 returns-in_err-cut c d attached h k =
-    let was = stood _ _ _ _ (c.requires.known) c.index_mut.ensures.value c.in-Some.is in
+    let was = stood _ _ _ _ c.requires.known c.index_mut.ensures.value c.in-Some.is in
     let f = record c.args.self.now { nodes = with_item c.args.self.now.nodes c.args.node (Some c.cut.new.self); history = c.reserve.new.self } in
-    let node = is_node_of d.plan h c.args.self.now.nodes.items c.args.node c.in-Some.at k.stands.nodes (within_of _ c.args.node c.in-Some.at was) was in
+    let node = is_node_of d.plan h c.args.self.now.nodes.items c.args.node c.in-Some.at k.stands.nodes c.requires.known was in
     not_made d attached h (GivesIt (ToCut c.args.node)) f _ c.from_residual-in_err-cut.result c.from_residual-in_err-cut.ensures.1
     (λ fault is. this_cause h c.in_err-cut.field-0.0 fault (time_is_worn d.plan h k.stands.valid _ (means c.in-Some.at) (means c.cut.new.self) node.journal_is (0) (omega arith) c.in_err-cut.field-0.0 c.in_err-cut.ensures.fault) is)
     (stopped_still d attached h c.args.self.now f c.args.node c.in-Some.at c.cut.new.self k was
@@ -35,11 +34,11 @@ returns-in_err-cut c d attached h k =
 
 pub returns : goal.returns
 returns c d attached h k =
-    let was = stood _ _ _ _ (c.requires.known) c.index_mut.ensures.value c.in-Some.is in
+    let was = stood _ _ _ _ c.requires.known c.index_mut.ensures.value c.in-Some.is in
     let f = record c.args.self.now { nodes = with_item c.args.self.now.nodes c.args.node (Some c.cut.new.self); history = c.push.new.self } in
     quiet_ends d attached h c.args.self.now f k c.args.node c.in-Some.at c.cut.new.self c.len-place.result
     (record {
-      within = within_of _ c.args.node c.in-Some.at was;
+      within = c.requires.known;
       was = was;
       nodes = refl;
       place_is = c.len-place.ensures ∙ place_len c.journal.result.now.items c.in-Some.at.journal.items c.journal.ensures;

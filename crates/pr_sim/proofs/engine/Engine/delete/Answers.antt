@@ -10,8 +10,7 @@ use Rattle.pr_sim.specs.Commands.{GivesIt}
 use Rattle.pr_node.proofs.OfClients.{done_is, done_seen}
 use Rattle.pr_sim.proofs.Ending.{client_ends}
 use Rattle.pr_sim.proofs.Faults.{no_memory, not_made, same_journal, stopped_same, stopped_still, this_cause, write_is_worn}
-use Rattle.pr_sim.proofs.Step.{never_empty, place_len, stood, within_of}
-use Rattle.pr_sim.proofs.Step.{is_node_of}
+use Rattle.pr_sim.proofs.Step.{is_node_of, never_empty, place_len, stood}
 use Rattle.pr_sim.proofs.engine.Engine.delete.Goals as goal
 
 pub returns-in_err-reserve : goal.returns-in_err-reserve
@@ -27,9 +26,10 @@ unreachable-requires c =
 
 pub returns-in_err-done : goal.returns-in_err-done
 returns-in_err-done c d attached h k =
-    let was = stood _ _ _ _ (subst (λ i. i < length c.args.self.now.nodes.items) (sym c.number-node.ensures) (k.stands.clients.at c.args.client c.requires.client)) c.index_mut.ensures.value c.in-Some.is in
+    let within = subst (λ i. i < length c.args.self.now.nodes.items) (sym c.number-node.ensures) (k.stands.clients.at c.args.client c.requires.client) in
+    let was = stood _ _ _ _ within c.index_mut.ensures.value c.in-Some.is in
     let f = record c.args.self.now { nodes = with_item c.args.self.now.nodes c.number-node.result (Some c.delete.new.self); history = c.reserve.new.self } in
-    let node = is_node_of d.plan h c.args.self.now.nodes.items c.number-node.result c.in-Some.at k.stands.nodes (within_of _ c.number-node.result c.in-Some.at was) was in
+    let node = is_node_of d.plan h c.args.self.now.nodes.items c.number-node.result c.in-Some.at k.stands.nodes within was in
     not_made d attached h (GivesIt (ToWrite c.args.client c.args.name.now [] true)) f _ c.from_residual-in_err-done.result c.from_residual-in_err-done.ensures.1
     (λ fault is. this_cause h c.in_err-done.field-0.0 fault (write_is_worn d.plan h k.stands.valid _ (means c.in-Some.at) (means c.delete.new.self) node.journal_is c.vector-seen.result c.in_err-done.field-0.0 c.in_err-done.ensures.fault) is)
     (stopped_still d attached h c.args.self.now f c.number-node.result c.in-Some.at c.delete.new.self k was
@@ -38,13 +38,14 @@ returns-in_err-done c d attached h k =
 
 pub returns : goal.returns
 returns c d attached h k =
-    let was = stood _ _ _ _ (subst (λ i. i < length c.args.self.now.nodes.items) (sym c.number-node.ensures) (k.stands.clients.at c.args.client c.requires.client)) c.index_mut.ensures.value c.in-Some.is in
+    let within = subst (λ i. i < length c.args.self.now.nodes.items) (sym c.number-node.ensures) (k.stands.clients.at c.args.client c.requires.client) in
+    let was = stood _ _ _ _ within c.index_mut.ensures.value c.in-Some.is in
     let n = c.number-node.result in
     let needs = c.vector-seen.result in
     let f = record c.args.self.now { nodes = with_item c.args.self.now.nodes c.number-node.result (Some c.delete.new.self); history = c.push.new.self; seen = with_item c.args.self.now.seen c.args.client c.seen_then.result } in
     client_ends d attached h c.args.self.now f k n c.in-Some.at c.delete.new.self c.len-place.result
     (record {
-      within = within_of _ n c.in-Some.at was;
+      within = within;
       was = was;
       nodes = refl;
       place_is = c.len-place.ensures ∙ place_len c.journal.result.now.items c.in-Some.at.journal.items c.journal.ensures;

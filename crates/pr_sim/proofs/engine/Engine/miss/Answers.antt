@@ -4,7 +4,7 @@ use Rattle.pr_story.specs.Commands.{ToDeliver}
 use Rattle.pr_sim.specs.Commands.{GivesIt}
 use Rattle.pr_sim.proofs.Receiving.{miss_ends}
 use Rattle.pr_sim.proofs.Faults.{no_memory, not_made, same_journal, stopped_same, stopped_still, this_cause, time_is_worn}
-use Rattle.pr_sim.proofs.Step.{is_node_of, never_empty, place_len, stood, within_of}
+use Rattle.pr_sim.proofs.Step.{is_node_of, never_empty, place_len, stood}
 use Rattle.pr_sim.proofs.OfStreams.{ends_of}
 use Rattle.std.specs.Vec.{with_item}
 use Rattle.std.specs.Prelude.{Some}
@@ -23,9 +23,10 @@ returns-in_err-reserve c d attached h k none =
 
 pub returns-in_err-missing : goal.returns-in_err-missing
 returns-in_err-missing c d attached h k none =
-    let was = stood _ _ _ _ ((ends_of d.plan _ _ c.args.stream c.route-node.result k.stands.routes (let lt = c.requires.stream in let l = k.stands.many in omega arith) c.route-node.ensures).3) c.index_mut.ensures.value c.in-Some.is in
+    let within = (ends_of d.plan _ _ c.args.stream c.route-node.result k.stands.routes (let lt = c.requires.stream in let l = k.stands.many in omega arith) c.route-node.ensures).3 in
+    let was = stood _ _ _ _ within c.index_mut.ensures.value c.in-Some.is in
     let f = record c.args.self.now { nodes = with_item c.args.self.now.nodes c.route-node.result.destination (Some c.missing.new.self); history = c.reserve.new.self } in
-    let node = is_node_of d.plan h c.args.self.now.nodes.items c.route-node.result.destination c.in-Some.at k.stands.nodes (within_of _ c.route-node.result.destination c.in-Some.at was) was in
+    let node = is_node_of d.plan h c.args.self.now.nodes.items c.route-node.result.destination c.in-Some.at k.stands.nodes within was in
     not_made d attached h (GivesIt (ToDeliver c.args.stream c.args.number)) f _ c.from_residual-in_err-missing.result c.from_residual-in_err-missing.ensures.1
     (λ fault is. this_cause h c.in_err-missing.field-0.0 fault (time_is_worn d.plan h k.stands.valid _ (means c.in-Some.at) (means c.missing.new.self) node.journal_is 0 (omega arith) c.in_err-missing.field-0.0 c.in_err-missing.ensures.fault) is)
     (stopped_still d attached h c.args.self.now f c.route-node.result.destination c.in-Some.at c.missing.new.self k was
@@ -34,13 +35,14 @@ returns-in_err-missing c d attached h k none =
 
 pub returns : goal.returns
 returns c d attached h k none =
-    let was = stood _ _ _ _ ((ends_of d.plan _ _ c.args.stream c.route-node.result k.stands.routes (let lt = c.requires.stream in let l = k.stands.many in omega arith) c.route-node.ensures).3) c.index_mut.ensures.value c.in-Some.is in
+    let r = ends_of d.plan _ _ c.args.stream c.route-node.result k.stands.routes (let lt = c.requires.stream in let l = k.stands.many in omega arith) c.route-node.ensures in
+    let within = r.3 in
+    let was = stood _ _ _ _ within c.index_mut.ensures.value c.in-Some.is in
     let n = c.route-node.result.destination in
     let f = record c.args.self.now { nodes = with_item c.args.self.now.nodes c.route-node.result.destination (Some c.missing.new.self); history = c.push.new.self } in
-    let r = ends_of d.plan _ _ c.args.stream c.route-node.result k.stands.routes (let lt = c.requires.stream in let l = k.stands.many in omega arith) c.route-node.ensures in
     miss_ends d attached h c.args.self.now f k n c.in-Some.at c.missing.new.self c.len-place.result
     (record {
-      within = within_of _ n c.in-Some.at was;
+      within = within;
       was = was;
       nodes = refl;
       place_is = c.len-place.ensures ∙ place_len c.journal.result.now.items c.in-Some.at.journal.items c.journal.ensures;

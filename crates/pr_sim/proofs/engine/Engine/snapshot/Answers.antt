@@ -5,10 +5,8 @@ use Rattle.pr_node.specs.Stored.{means}
 use Rattle.pr_story.specs.Clients.{client_vector}
 use Rattle.pr_sim.specs.Commands.{IsCheckpointMade}
 use Rattle.pr_sim.proofs.Faults.{no_memory, not_made, same_journal, stopped_same, stopped_still, this_cause, time_is_worn}
-use Rattle.pr_sim.proofs.Step.{never_empty, place_len, some_is, stood, within_of}
-use Rattle.pr_sim.proofs.OfStreams.{checkpoint_at_source, checkpoint_is, ends_of, noted_of, source_ends}
-use Rattle.pr_sim.proofs.Step.{is_node_of}
-use Rattle.pr_sim.proofs.OfStreams.{session_short}
+use Rattle.pr_sim.proofs.Step.{is_node_of, never_empty, place_len, some_is, stood}
+use Rattle.pr_sim.proofs.OfStreams.{checkpoint_at_source, checkpoint_is, ends_of, noted_of, source_ends, session_short}
 use Rattle.pr_story.specs.Places as story
 use Rattle.pr_sim.specs.Places.{HasNoted}
 use Rattle.std.specs.Vec.{with_item}
@@ -37,10 +35,11 @@ unreachable-requires-in_default-index_mut c =
 
 pub returns-in_err-msg : goal.returns-in_err-msg
 returns-in_err-msg c d attached h k =
-    let was = stood _ _ _ _ ((ends_of d.plan _ _ c.args.stream c.route-node.result k.stands.routes (let lt = c.requires.stream in let l = k.stands.many in omega arith) c.route-node.ensures).2) c.index_mut.ensures.value c.in-Some.is in
+    let within = (ends_of d.plan _ _ c.args.stream c.route-node.result k.stands.routes (let lt = c.requires.stream in let l = k.stands.many in omega arith) c.route-node.ensures).2 in
+    let was = stood _ _ _ _ within c.index_mut.ensures.value c.in-Some.is in
     let held = stood _ _ _ _ c.requires.stream c.index_mut-2.ensures.value c.in-Some-index_mut.is in
     let f = record c.args.self.now { nodes = with_item c.args.self.now.nodes c.route-node.result.source (Some c.checkpoint.new.self); sessions = with_item c.args.self.now.sessions c.args.stream (Some c.checkpoint.new.session); history = c.reserve.new.self; sent = c.room_for.new.sent } in
-    let node = is_node_of d.plan h c.args.self.now.nodes.items c.route-node.result.source c.in-Some.at k.stands.nodes (within_of _ c.route-node.result.source c.in-Some.at was) was in
+    let node = is_node_of d.plan h c.args.self.now.nodes.items c.route-node.result.source c.in-Some.at k.stands.nodes within was in
     not_made d attached h (IsCheckpointMade c.args.stream) f _ c.from_residual-in_err-msg.result c.from_residual-in_err-msg.ensures.1
     (λ fault is. this_cause h c.in_err-msg.field-0.0 fault (time_is_worn d.plan h k.stands.valid _ (means c.in-Some.at) (means c.checkpoint.new.self) node.journal_is (session.means c.in-Some-index_mut.session).standing.time (session_short d attached h c.args.self.now c.args.stream c.in-Some-index_mut.session k c.requires.stream held) c.in_err-msg.field-0.0 c.in_err-msg.ensures.fault) is)
     (stopped_still d attached h c.args.self.now f c.route-node.result.source c.in-Some.at c.checkpoint.new.self k was
@@ -49,14 +48,15 @@ returns-in_err-msg c d attached h k =
 
 pub returns : goal.returns
 returns c d attached h k =
-    let was = stood _ _ _ _ ((ends_of d.plan _ _ c.args.stream c.route-node.result k.stands.routes (let lt = c.requires.stream in let l = k.stands.many in omega arith) c.route-node.ensures).2) c.index_mut.ensures.value c.in-Some.is in
+    let r = ends_of d.plan _ _ c.args.stream c.route-node.result k.stands.routes (let lt = c.requires.stream in let l = k.stands.many in omega arith) c.route-node.ensures in
+    let within = r.2 in
+    let was = stood _ _ _ _ within c.index_mut.ensures.value c.in-Some.is in
     let held = stood _ _ _ _ c.requires.stream c.index_mut-2.ensures.value c.in-Some-index_mut.is in
     let n = c.route-node.result.source in
     let f = record c.args.self.now { nodes = with_item c.args.self.now.nodes c.route-node.result.source (Some c.checkpoint.new.self); sessions = with_item c.args.self.now.sessions c.args.stream (Some c.checkpoint.new.session); history = c.push.new.self; sent = c.note.new.sent } in
-    let r = ends_of d.plan _ _ c.args.stream c.route-node.result k.stands.routes (let lt = c.requires.stream in let l = k.stands.many in omega arith) c.route-node.ensures in
     source_ends d attached h c.args.self.now f k n c.in-Some.at c.checkpoint.new.self c.len-place.result
     (record {
-      within = within_of _ n c.in-Some.at was;
+      within = within;
       was = was;
       nodes = refl;
       place_is = c.len-place.ensures ∙ place_len c.journal.result.now.items c.in-Some.at.journal.items c.journal.ensures;

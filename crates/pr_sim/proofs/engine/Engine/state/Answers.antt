@@ -4,8 +4,7 @@ use Rattle.pr_story.specs.Commands.{ToTellState}
 use Rattle.pr_sim.specs.Commands.{GivesIt}
 use Rattle.pr_sim.proofs.Ending.{quiet_ends_by, state_quiet}
 use Rattle.pr_sim.proofs.Faults.{no_memory, not_made, same_journal, stopped_same, stopped_still, this_cause, time_is_worn}
-use Rattle.pr_sim.proofs.Step.{never_empty, place_len, stood, within_of}
-use Rattle.pr_sim.proofs.Step.{is_node_of}
+use Rattle.pr_sim.proofs.Step.{is_node_of, never_empty, place_len, stood}
 use Rattle.std.specs.Vec.{with_item}
 use Rattle.std.specs.Prelude.{Some}
 use Rattle.pr_sim.proofs.engine.Engine.state.Goals as goal
@@ -23,9 +22,9 @@ unreachable-requires c =
 
 pub returns-in_err-state : goal.returns-in_err-state
 returns-in_err-state c d attached h k =
-    let was = stood _ _ _ _ (c.requires.known) c.index_mut.ensures.value c.in-Some.is in
+    let was = stood _ _ _ _ c.requires.known c.index_mut.ensures.value c.in-Some.is in
     let f = record c.args.self.now { nodes = with_item c.args.self.now.nodes c.args.node (Some c.state.new.self); history = c.reserve.new.self } in
-    let node = is_node_of d.plan h c.args.self.now.nodes.items c.args.node c.in-Some.at k.stands.nodes (within_of _ c.args.node c.in-Some.at was) was in
+    let node = is_node_of d.plan h c.args.self.now.nodes.items c.args.node c.in-Some.at k.stands.nodes c.requires.known was in
     not_made d attached h (GivesIt (ToTellState c.args.node)) f _ c.from_residual-in_err-state.result c.from_residual-in_err-state.ensures.1
     (λ fault is. this_cause h c.in_err-state.field-0.0 fault (time_is_worn d.plan h k.stands.valid _ (means c.in-Some.at) (means c.state.new.self) node.journal_is (0) (omega arith) c.in_err-state.field-0.0 c.in_err-state.ensures.fault) is)
     (stopped_still d attached h c.args.self.now f c.args.node c.in-Some.at c.state.new.self k was
@@ -34,11 +33,11 @@ returns-in_err-state c d attached h k =
 
 pub returns : goal.returns
 returns c d attached h k =
-    let was = stood _ _ _ _ (c.requires.known) c.index_mut.ensures.value c.in-Some.is in
+    let was = stood _ _ _ _ c.requires.known c.index_mut.ensures.value c.in-Some.is in
     let f = record c.args.self.now { nodes = with_item c.args.self.now.nodes c.args.node (Some c.state.new.self); history = c.push.new.self } in
     quiet_ends_by d attached h c.args.self.now f k c.args.node c.in-Some.at c.state.new.self c.len-place.result
     (record {
-      within = within_of _ c.args.node c.in-Some.at was;
+      within = c.requires.known;
       was = was;
       nodes = refl;
       place_is = c.len-place.ensures ∙ place_len c.journal.result.now.items c.in-Some.at.journal.items c.journal.ensures;

@@ -8,7 +8,7 @@ use Rattle.pr_story.proofs.Short.{valid_short}
 use Rattle.pr_sim.specs.Commands.{IsTakingMade}
 use Rattle.pr_sim.proofs.Receiving.{take_ends}
 use Rattle.pr_sim.proofs.Faults.{no_memory, not_made, same_journal, stopped_same, stopped_still, this_cause, time_is_worn}
-use Rattle.pr_sim.proofs.Step.{is_node_of, never_empty, place_len, stood, within_of}
+use Rattle.pr_sim.proofs.Step.{is_node_of, never_empty, place_len, stood}
 use Rattle.pr_sim.proofs.OfStreams.{ends_of}
 use Rattle.std.specs.Vec.{with_item}
 use Rattle.std.specs.Prelude.{Some}
@@ -27,9 +27,10 @@ returns-in_err-reserve c d attached h k sent of =
 
 pub returns-in_err-taken : goal.returns-in_err-taken
 returns-in_err-taken c d attached h k sent of =
-    let was = stood _ _ _ _ ((ends_of d.plan _ _ c.args.stream c.route-node.result k.stands.routes (let lt = c.requires.stream in let l = k.stands.many in omega arith) c.route-node.ensures).3) c.index_mut.ensures.value c.in-Some.is in
+    let within = (ends_of d.plan _ _ c.args.stream c.route-node.result k.stands.routes (let lt = c.requires.stream in let l = k.stands.many in omega arith) c.route-node.ensures).3 in
+    let was = stood _ _ _ _ within c.index_mut.ensures.value c.in-Some.is in
     let f = record c.args.self.now { nodes = with_item c.args.self.now.nodes c.route-node.result.destination (Some c.accept.new.self); history = c.reserve.new.self } in
-    let node = is_node_of d.plan h c.args.self.now.nodes.items c.route-node.result.destination c.in-Some.at k.stands.nodes (within_of _ c.route-node.result.destination c.in-Some.at was) was in
+    let node = is_node_of d.plan h c.args.self.now.nodes.items c.route-node.result.destination c.in-Some.at k.stands.nodes within was in
     not_made d attached h (IsTakingMade c.args.msg) f _ c.from_residual-in_err-taken.result c.from_residual-in_err-taken.ensures.1
     (λ fault is. this_cause h c.in_err-taken.field-0.0 fault (time_is_worn d.plan h k.stands.valid _ (means c.in-Some.at) (means c.accept.new.self) node.journal_is c.args.msg.time ((valid_short d.plan h k.stands.valid).messages c.args.msg sent) c.in_err-taken.field-0.0 c.in_err-taken.ensures.fault) is)
     (stopped_still d attached h c.args.self.now f c.route-node.result.destination c.in-Some.at c.accept.new.self k was
@@ -50,14 +51,15 @@ heard-requires c =
 
 pub returns : goal.returns
 returns c d attached h k sent of =
-    let was = stood _ _ _ _ ((ends_of d.plan _ _ c.args.stream c.route-node.result k.stands.routes (let lt = c.requires.stream in let l = k.stands.many in omega arith) c.route-node.ensures).3) c.index_mut.ensures.value c.in-Some.is in
+    let r = ends_of d.plan _ _ c.args.stream c.route-node.result k.stands.routes (let lt = c.requires.stream in let l = k.stands.many in omega arith) c.route-node.ensures in
+    let within = r.3 in
+    let was = stood _ _ _ _ within c.index_mut.ensures.value c.in-Some.is in
     let held = stood _ _ _ _ c.requires.stream c.index_mut-2.ensures.value c.in-Some-index_mut.is in
     let n = c.route-node.result.destination in
     let f = record c.args.self.now { nodes = with_item c.args.self.now.nodes c.route-node.result.destination (Some c.accept.new.self); history = c.push.new.self; sessions = with_item c.args.self.now.sessions c.args.stream (Some c.heard.new.self) } in
-    let r = ends_of d.plan _ _ c.args.stream c.route-node.result k.stands.routes (let lt = c.requires.stream in let l = k.stands.many in omega arith) c.route-node.ensures in
     take_ends d attached h c.args.self.now f k n c.in-Some.at c.accept.new.self c.len-place.result
     (record {
-      within = within_of _ n c.in-Some.at was;
+      within = within;
       was = was;
       nodes = refl;
       place_is = c.len-place.ensures ∙ place_len c.journal.result.now.items c.in-Some.at.journal.items c.journal.ensures;

@@ -12,10 +12,8 @@ use Rattle.pr_sim.proofs.Scans.{scan_of_session, scan_of_stream, scans_put}
 use Rattle.pr_story.specs.Clients.{client_vector}
 use Rattle.pr_sim.specs.Commands.{IsTurnMade}
 use Rattle.pr_sim.proofs.Faults.{no_memory, not_made, same_journal, stopped_same, stopped_still, this_cause, time_is_worn}
-use Rattle.pr_sim.proofs.Step.{never_empty, place_len, some_is, stood, within_of}
-use Rattle.pr_sim.proofs.OfStreams.{ends_of, session_of, source_ends, step_at_source, step_is, step_noted}
-use Rattle.pr_sim.proofs.Step.{is_node_of}
-use Rattle.pr_sim.proofs.OfStreams.{session_short}
+use Rattle.pr_sim.proofs.Step.{is_node_of, never_empty, place_len, some_is, stood}
+use Rattle.pr_sim.proofs.OfStreams.{ends_of, session_of, source_ends, step_at_source, step_is, step_noted, session_short}
 use Rattle.pr_sim.proofs.engine.Engine.turn.Goals as goal
 
 pub returns-in_err-reserve : goal.returns-in_err-reserve
@@ -41,15 +39,16 @@ unreachable-requires-in_default-index_mut c =
 
 pub turn_from-requires-clause-scan : goal.turn_from-requires-clause-scan
 turn_from-requires-clause-scan c =
-    let was = stood _ _ _ _ ((ends_of c.requires.kept.0.plan _ _ c.args.stream c.route-node.result c.requires.kept.3.stands.routes (let lt = c.requires.stream in let l = c.requires.kept.3.stands.many in omega arith) c.route-node.ensures).2) c.index_mut.ensures.value c.in-Some.is in
-    let held = stood _ _ _ _ c.requires.stream c.index_mut-2.ensures.value c.in-Some-index_mut.is in
     let plan = c.requires.kept.0.plan in
     let h = c.requires.kept.2 in
     let k = c.requires.kept.3.stands in
-    let st = (session.means c.in-Some-index_mut.session).standing in
     let r = ends_of plan _ _ c.args.stream c.route-node.result k.routes (let lt = c.requires.stream in let l = k.many in omega arith) c.route-node.ensures in
+    let within = r.2 in
+    let was = stood _ _ _ _ within c.index_mut.ensures.value c.in-Some.is in
+    let held = stood _ _ _ _ c.requires.stream c.index_mut-2.ensures.value c.in-Some-index_mut.is in
+    let st = (session.means c.in-Some-index_mut.session).standing in
     let i = session_of plan h c.args.self.now.sessions.items c.args.stream c.in-Some-index_mut.session k.sessions c.requires.stream held in
-    let node = is_node_of plan h c.args.self.now.nodes.items c.route-node.result.source c.in-Some.at k.nodes (within_of _ c.route-node.result.source c.in-Some.at was) was in
+    let node = is_node_of plan h c.args.self.now.nodes.items c.route-node.result.source c.in-Some.at k.nodes within was in
     subst (λ (x : Scanned). IsScanOf x st (means c.in-Some.at).journal) (sym c.index_mut-scan.ensures.value)
     (scan_of_session plan h c.args.stream st _ (means c.in-Some.at).journal i.stands
     (subst (λ (l : List Entry). IsScanOf (get_or c.args.self.now.scans.items c.args.stream c.index_mut-scan.result.now) (standing plan h c.args.stream) l) (sym (node.journal_is ∙ ap (λ (t : ℕ). journal h t) r.0))
@@ -57,10 +56,11 @@ turn_from-requires-clause-scan c =
 
 pub returns-in_err-step : goal.returns-in_err-step
 returns-in_err-step c d attached h k =
-    let was = stood _ _ _ _ ((ends_of d.plan _ _ c.args.stream c.route-node.result k.stands.routes (let lt = c.requires.stream in let l = k.stands.many in omega arith) c.route-node.ensures).2) c.index_mut.ensures.value c.in-Some.is in
+    let within = (ends_of d.plan _ _ c.args.stream c.route-node.result k.stands.routes (let lt = c.requires.stream in let l = k.stands.many in omega arith) c.route-node.ensures).2 in
+    let was = stood _ _ _ _ within c.index_mut.ensures.value c.in-Some.is in
     let held = stood _ _ _ _ c.requires.stream c.index_mut-2.ensures.value c.in-Some-index_mut.is in
     let f = record c.args.self.now { nodes = with_item c.args.self.now.nodes c.route-node.result.source (Some c.turn_from.new.self); sessions = with_item c.args.self.now.sessions c.args.stream (Some c.turn_from.new.session); history = c.reserve.new.self; sent = c.room_for.new.sent; scans = with_item c.args.self.now.scans c.args.stream c.turn_from.new.scan } in
-    let node = is_node_of d.plan h c.args.self.now.nodes.items c.route-node.result.source c.in-Some.at k.stands.nodes (within_of _ c.route-node.result.source c.in-Some.at was) was in
+    let node = is_node_of d.plan h c.args.self.now.nodes.items c.route-node.result.source c.in-Some.at k.stands.nodes within was in
     not_made d attached h (IsTurnMade c.args.stream) f _ c.from_residual-in_err-step.result c.from_residual-in_err-step.ensures.1
     (λ fault is. this_cause h c.in_err-step.field-0.0 fault (time_is_worn d.plan h k.stands.valid _ (means c.in-Some.at) (means c.turn_from.new.self) node.journal_is (session.means c.in-Some-index_mut.session).standing.time (session_short d attached h c.args.self.now c.args.stream c.in-Some-index_mut.session k c.requires.stream held) c.in_err-step.field-0.0 c.in_err-step.ensures.fault) is)
     (stopped_still d attached h c.args.self.now f c.route-node.result.source c.in-Some.at c.turn_from.new.self k was
@@ -69,14 +69,15 @@ returns-in_err-step c d attached h k =
 
 pub returns : goal.returns
 returns c d attached h k =
-    let was = stood _ _ _ _ ((ends_of d.plan _ _ c.args.stream c.route-node.result k.stands.routes (let lt = c.requires.stream in let l = k.stands.many in omega arith) c.route-node.ensures).2) c.index_mut.ensures.value c.in-Some.is in
+    let r = ends_of d.plan _ _ c.args.stream c.route-node.result k.stands.routes (let lt = c.requires.stream in let l = k.stands.many in omega arith) c.route-node.ensures in
+    let within = r.2 in
+    let was = stood _ _ _ _ within c.index_mut.ensures.value c.in-Some.is in
     let held = stood _ _ _ _ c.requires.stream c.index_mut-2.ensures.value c.in-Some-index_mut.is in
     let n = c.route-node.result.source in
     let f = record c.args.self.now { nodes = with_item c.args.self.now.nodes c.route-node.result.source (Some c.turn_from.new.self); sessions = with_item c.args.self.now.sessions c.args.stream (Some c.turn_from.new.session); history = c.push.new.self; sent = c.note_step.new.sent; scans = with_item c.args.self.now.scans c.args.stream c.turn_from.new.scan } in
-    let r = ends_of d.plan _ _ c.args.stream c.route-node.result k.stands.routes (let lt = c.requires.stream in let l = k.stands.many in omega arith) c.route-node.ensures in
     source_ends d attached h c.args.self.now f k n c.in-Some.at c.turn_from.new.self c.len-place.result
     (record {
-      within = within_of _ n c.in-Some.at was;
+      within = within;
       was = was;
       nodes = refl;
       place_is = c.len-place.ensures ∙ place_len c.journal.result.now.items c.in-Some.at.journal.items c.journal.ensures;
