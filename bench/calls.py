@@ -6,13 +6,13 @@
 Of pair, coded, filtered and bodies a call is a round: pair is a write, a turn, an accept and a read, coded the same over
 bytes, filtered one of many writes with two turns behind each ten, and bodies a write and two turns. Of cut it is a write
 and a cut. Each kind is run at its number of calls, at twice that, with twice as many names, and, where nodes tell the
-names beforehand, with 31 writers in place of one, and then with twice as many calls too. From each the time of a run with no
-calls is taken off, which is what it takes to begin.
+names beforehand, with 31 writers in place of one, at its number of calls and at twice that. From each the time of a run
+with no calls is taken off, which is what it takes to begin.
 
 It writes for each kind the number of calls, the microseconds of processor time for a call, the least of N tries, and over
-that the time for a call of each other run: 1.0 is no growth. The last column is the time of a call of twice as many, with
-31 writers, over that of the column before. With --part K the number of calls is divided by K. No figure
-is a test; the exit status is 1 where a run ends as it must not.
+that the time for a call of each other run: 1.0 is no growth. In the last column ("31, x2") it is twice as many calls with
+31 writers over the calls with 31 writers. With --part K the number of calls is divided by K. No figure is a test; the exit
+status is 1 where a run ends as it must not.
 """
 
 import argparse
@@ -81,7 +81,7 @@ def main():
     args = parser.parse_intermixed_args()
 
     status = 0
-    print(f"{'kind':12} {'calls':>7} {'us a call':>9} {'calls x2':>8} {'names x2':>8} {'31 writers':>10} {'calls x2':>8}")
+    print(f"{'kind':12} {'calls':>7} {'us a call':>9} {'calls x2':>8} {'names x2':>8} {'31 writers':>10} {'31, x2':>8}")
     for kind in args.kinds or KINDS:
         try:
             measured(kind, args)
