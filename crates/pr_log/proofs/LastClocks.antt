@@ -25,10 +25,10 @@ use Rattle.pr_log.proofs.Places.{this_or_other}
 
 -- ---- names as keys
 
-abbrev is_key : List ℕ → List ℕ → Bool
+abbrev pub is_key : List ℕ → List ℕ → Bool
 is_key o k = is_eq (slice_cmp nat_cmp o k)
 
-same_name : (a b : List ℕ) → is_key a b ≡ true → a ≡ b
+pub same_name : (a b : List ℕ) → is_key a b ≡ true → a ≡ b
 same_name a b e = (bytes_eq-Decides a b).0 (sym (is_eq-slice_cmp a b) ∙ e)
 
 pub not_both : {A : Type 0} (b : Bool) → b ≡ true → b ≡ false → A

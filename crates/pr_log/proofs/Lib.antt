@@ -11,5 +11,6 @@ pub mod Omitted
 pub mod Logs
 pub mod Counts
 pub mod LastClocks
+pub mod Ranges
 pub mod Past
 pub mod Ordered

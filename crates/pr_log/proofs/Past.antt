@@ -48,22 +48,3 @@ node_omits_above rows n c row o sub old now by_stamp row_is is = (
   (λ h. elim (is.0 h) [ inl first ↦ inl first | inr this ↦ inr (this.0, above_of rows n c row o by_stamp row_is this.1) ]),
   (λ h. is.1 (elim h [ inl first ↦ inl first | inr this ↦ inr (this.0, above_in rows n c row o row_is this.1) ])),
 )
-
--- those up to a clock, and then all above it
-pub omit_rest : (rows : List (List (ℕ × WriteRec))) (sub : List Span) (n from clock to : ℕ) (o : List ℕ) (old was now : Bool) → ((x : WriteRec) → Has rows x → x.stamp.node ≡ n → x.stamp.clock ≤ to) → from ≤ clock → (clock ≤ to) ⊎ (clock ≡ from) → IsTrue was ↔ (IsTrue old ⊎ IsOmittedOf rows sub n from clock o) → IsTrue now ↔ (IsTrue was ⊎ ((has sub o ≡ false) × WroteAbove rows n clock o)) → IsTrue now ↔ (IsTrue old ⊎ IsOmittedOf rows sub n from to o)
-omit_rest rows sub n from clock to o old was now up_to above within so_far more = (
-  (λ h. elim (more.0 h) [
-    | inl before ↦ elim (so_far.0 before) [
-      | inl first ↦ inl first
-      | inr (out, (x, known, name, node, past, le)) ↦ inr (out, (x, known, name, node, past, up_to x known node))
-    ]
-    | inr (out, (x, known, node, name, past)) ↦ inr (out, (x, known, name, node, omega (arith, above, past), up_to x known node))
-  ]),
-  (λ h. more.1 (elim h [
-    | inl first ↦ inl (so_far.1 (inl first))
-    | inr (out, (x, known, name, node, past, le)) ↦ elim (less_or clock x.stamp.clock) [
-      | inl after ↦ inr (out, (x, known, node, name, after))
-      | inr before ↦ inl (so_far.1 (inr (out, (x, known, name, node, past, before))))
-    ]
-  ])),
-)

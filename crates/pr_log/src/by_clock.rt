@@ -89,6 +89,12 @@ impl ByClock {
         )
     }
 
+    // At most so many writes are above the clock, in logarithmic time.
+    pub fn most_above(&self, clock: u64) -> usize {
+        let above = self.in_order.len() - up_to(&self.in_order, clock);
+        above.saturating_add(self.late.len())
+    }
+
     // Drops the writes up to the clock, in time linear in the writes.
     pub fn forget(&mut self, clock: u64)
         ensures { IsForgottenUpTo clock self.old self.new }

@@ -42,6 +42,10 @@ impl Collector {
         }
     }
 
+    pub fn alloc(&self) -> Global {
+        self.alloc
+    }
+
     // Adds the names of a set.
     pub fn add(&mut self, set: NameSet) -> Result<(), NoMemory>
         ensures { OnOk result ((o : List ℕ) → IsName o → is_gathered self.new o ≡ (is_gathered self.old o || has set o)) }
@@ -127,6 +131,22 @@ fn put(alloc: Global, set: &mut NameSet, name: &Name) -> Result<(), NoMemory>
     let one = NameSet::of(alloc, part)?;
     *set = set.union(alloc, &one)?;
     Ok(())
+}
+
+// Adds the name to the set, if it is none of these; in constant time where it comes after the set's intervals and touches
+// none.
+pub fn put_outside(
+    alloc: Global,
+    set: &mut NameSet,
+    sub: &NameSet,
+    name: &Name,
+) -> Result<(), NoMemory>
+    ensures { OnOk result ((o : List ℕ) → IsName o → has set.new o ≡ (has set.old o || (bytes_eq name.now o && not (has sub.now name.now)))) }
+{
+    if sub.has(name) {
+        return Ok(());
+    }
+    put(alloc, set, name)
 }
 
 // The interval of the name alone.

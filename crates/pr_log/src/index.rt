@@ -83,7 +83,7 @@ impl Index {
     }
 
     // The names of known writes between the vectors that are none of these, in time logarithmic in the writes of a
-    // node, for each write between, and of a node that wrote nothing past the end at most for each of its names.
+    // node, for each write between; of a node that wrote nothing past the end at most linear in its names.
     pub(crate) fn omitted(
         &self,
         alloc: Global,
@@ -101,7 +101,8 @@ impl Index {
         names.union()
     }
 
-    // Adds the names of a node's writes above one clock, up to another, that are none of these.
+    // Adds the names of a node's writes above one clock, up to another, that are none of these: where none is past the
+    // end, and there are more of them than names, by the latest write to each name.
     fn omit(
         &self,
         writer: u32,
@@ -113,35 +114,10 @@ impl Index {
         requires { writer < 32 }
         ensures { OnOk result ((o : List ℕ) → IsName o → IsTrue (is_gathered names.new o) ↔ (IsTrue (is_gathered names.old o) ⊎ IsOmittedOf self.now sub.now writer from to o)) }
     {
-        if self.is_up_to(writer, to) {
-            return self.omit_past(writer, from, to, sub, names);
+        if self.is_up_to(writer, to) && self.is_much_above(writer, from) {
+            return self.omit_above(writer, from, sub, names);
         }
         self.omit_each(writer, from, to, sub, names)
-    }
-
-    // The same where no write is past the end: by each write, and behind as many as there are names, by the latest write
-    // to each name.
-    fn omit_past(
-        &self,
-        writer: u32,
-        from: u64,
-        to: u64,
-        sub: &NameSet,
-        names: &mut Collector,
-    ) -> Result<(), NoMemory>
-        requires writer { writer < 32 }
-        requires end { (x : WriteRec) → Has self.now x → x.stamp.node ≡ writer → x.stamp.clock ≤ to }
-        ensures { OnOk result ((o : List ℕ) → IsName o → IsTrue (is_gathered names.new o) ↔ (IsTrue (is_gathered names.old o) ⊎ IsOmittedOf self.now sub.now writer from to o)) }
-    {
-        let mut clock = from;
-        for _ in 0..self.names_of(writer) {
-            let Some(write) = self.first_between(writer, clock, to) else {
-                return Ok(());
-            };
-            names.add_outside(sub, &write.name)?;
-            clock = write.stamp.clock();
-        }
-        self.omit_above(writer, clock, sub, names)
     }
 
     // The same, by each write.
@@ -164,26 +140,26 @@ impl Index {
         Ok(())
     }
 
-    // Whether a known write to one of the names lies past the position, in time linear in the names that the nodes wrote
-    // to.
-    pub(crate) fn waits(&self, pos: &Vector, sub: &NameSet) -> bool
+    // Whether a known write to one of the names may lie past the position, where of each node so many names of each
+    // interval are looked at.
+    pub(crate) fn may_wait(&self, pos: &Vector, sub: &NameSet, most: usize) -> bool
         ensures { result ≡ false → (x : WriteRec) → ¬ IsWaiting self.now pos.now sub.now x }
     {
         self.by_stamp();
         for n in 0..NODES {
-            if self.wrote_past(n, pos.at(n), sub) {
+            if self.may_have_past(n, pos.at(n), sub, most) {
                 return true;
             }
         }
         false
     }
 
-    // Whether the node wrote to one of the names above the clock.
-    fn wrote_past(&self, writer: u32, from: u64, sub: &NameSet) -> bool
+    // Whether the node may have written to one of the names above the clock.
+    fn may_have_past(&self, writer: u32, from: u64, sub: &NameSet, most: usize) -> bool
         requires { writer < 32 }
         ensures { result ≡ false → (x : WriteRec) → Has self.now x → x.stamp.node ≡ writer → from < x.stamp.clock → has sub.now x.name ≡ false }
     {
-        self.rows[writer as usize].has_above(from, sub)
+        self.rows[writer as usize].may_have_above(from, sub, most)
     }
 
     // Adds the names of the node's writes above the clock that are none of these.
@@ -200,20 +176,11 @@ impl Index {
         self.rows[writer as usize].omit_above(clock, sub, names)
     }
 
-    // How many names the node wrote to.
-    fn names_of(&self, writer: u32) -> usize
+    // Whether the node has more writes above the clock than names, of which the late ones all count.
+    fn is_much_above(&self, writer: u32, clock: u64) -> bool
         requires { writer < 32 }
     {
-        self.rows[writer as usize].names()
-    }
-
-    // How many names the nodes wrote to, each node's counted apart.
-    pub(crate) fn names(&self) -> usize {
-        let mut names = 0usize;
-        for row in &self.rows {
-            names = names.saturating_add(row.names());
-        }
-        names
+        self.rows[writer as usize].is_much_above(clock)
     }
 
     // The node's first known write above one clock, if it is not above another.

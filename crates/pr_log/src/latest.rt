@@ -1,17 +1,20 @@
 // The clocks of the latest writes of one node.
 ghost use Rattle.pr_log.specs.Latest.{IsAbove, IsLeftAbove, IsRaised};
+ghost use Rattle.pr_log.specs.Ranges.{range_end};
 ghost use Rattle.pr_log.specs.Sets.{is_gathered};
 ghost use Rattle.pr_names.specs.Name.{IsName};
+ghost use Rattle.pr_names.specs.Span.{IsSpan, holds};
 ghost use Rattle.pr_sets.specs.Spans.{has};
-ghost use Rattle.std.specs.Prelude.{◌≡◌, ◌⊎◌, ◌↔◌, ℕ, List, [], IsTrue, OnErr, OnOk, false};
+ghost use Rattle.std.specs.Prelude.{◌≡◌, ◌⊎◌, ◌↔◌, ℕ, List, [], IsTrue, IfOk, OnErr, OnOk, false};
 
-use crate::collector::Collector;
-use pr_names::Name;
+use crate::collector::{Collector, put_outside};
+use pr_names::{Interval, Name};
 use pr_sets::NameSet;
 use pr_stamps::NoMemory;
 use std::alloc::Global;
 use std::collections::BTreeMap;
 use std::marker::Model;
+use std::ops::Bound;
 
 // By name the clock of the latest write to it.
 #[derive(Drop)]
@@ -53,14 +56,33 @@ impl Latest {
         self.clocks.retain(|_, last| *last > clock);
     }
 
-    // Whether one of the names has a write above the clock, in time linear in the names that have writes.
-    pub fn has_above(&self, clock: u64, names: &NameSet) -> bool
+    // Whether one of the names may have a write above the clock: of each interval so many names are looked at, and where
+    // there are more, the answer is yes. It takes time logarithmic in the names that have writes, for each interval, and
+    // linear in those that it looks at.
+    pub fn may_have_above(&self, clock: u64, names: &NameSet, most: usize) -> bool
         ensures { result ≡ false → (o : List ℕ) → IsAbove self.now clock o → has names.now o ≡ false }
     {
-        for (name, last) in self.clocks.iter() {
-            if *last > clock && names.has(name) {
+        for part in names.parts() {
+            if self.may_have_in(part, clock, most) {
                 return true;
             }
+        }
+        false
+    }
+
+    // The same of one interval.
+    fn may_have_in(&self, part: &Interval, clock: u64, most: usize) -> bool
+        ensures { result ≡ false → (o : List ℕ) → IsAbove self.now clock o → holds part.now o ≡ false }
+    {
+        let mut left = most;
+        for (_, last) in self
+            .clocks
+            .range((Bound::Included(part.lo()), end_of(part)))
+        {
+            if *last > clock || left == 0 {
+                return true;
+            }
+            left -= 1;
         }
         false
     }
@@ -69,16 +91,37 @@ impl Latest {
     pub fn gather(&self, clock: u64, sub: &NameSet, names: &mut Collector) -> Result<(), NoMemory>
         ensures { OnOk result ((o : List ℕ) → IsName o → IsTrue (is_gathered names.new o) ↔ (IsTrue (is_gathered names.old o) ⊎ ((has sub.now o ≡ false) × IsAbove self.now clock o))) }
     {
+        let above = self.above(names.alloc(), clock, sub)?;
+        names.add(above)
+    }
+
+    // The names with a write above the clock that are none of these. They come in order, so that each is put behind the
+    // last.
+    fn above(&self, alloc: Global, clock: u64, sub: &NameSet) -> Result<NameSet, NoMemory>
+        ensures { IfOk result (λ set. (o : List ℕ) → IsName o → IsTrue (has set o) ↔ ((has sub.now o ≡ false) × IsAbove self.now clock o)) }
+    {
+        let mut above = NameSet::empty(alloc);
         for (name, last) in self.clocks.iter() {
             if *last > clock {
-                names.add_outside(sub, name)?;
+                put_outside(alloc, &mut above, sub, name)?;
             }
         }
-        Ok(())
+        Ok(above)
     }
 
     // How many names there are.
     pub fn names(&self) -> usize {
         self.clocks.len()
+    }
+}
+
+// The end of an interval, as that of a range of a map.
+fn end_of(part: &Interval) -> Bound<Name>
+    ensures value { result ≡ range_end part.now.hi }
+    ensures span { IsSpan part.now }
+{
+    match part.hi() {
+        pr_names::Bound::At(name) => Bound::Excluded(name),
+        pr_names::Bound::End => Bound::Unbounded,
     }
 }

@@ -19,6 +19,9 @@ use std::alloc::Global;
 use std::marker::{Brand, Model};
 use std::sync::ledger::{Blank, Ledger};
 
+// Behind so many looks at writes to other names it is first asked whether one of the names waits at all.
+const FIRST_ASK: usize = 16;
+
 /// The causal log of a node: its vector and cut, the names that are dark at each point of others, and the known writes
 /// above the cut, those that a precise invalidation told and those that the node made. The log of "PRACTI Replication"
 /// (NSDI 2006). After want of memory it is spent: each later call that takes memory is refused, and of what it holds
@@ -162,8 +165,8 @@ impl Log {
     }
 
     /// The least known write by stamp to one of the names whose point the position does not cover; None exactly where
-    /// there is none. It takes the time of `next_write_counted` twice at most, and where there is none that of one step
-    /// for each node and two for each name that it wrote to. It takes no memory.
+    /// there is none. It takes the time of `next_write_counted` a few times over at most; and where there is none, that
+    /// of some 16 steps, or of a few for each of the names that were written, for each interval. It takes no memory.
     pub fn next_write(&self, pos: &Vector, sub: &NameSet) -> Option<WriteRec>
         ensures { IsNextOf self.now.known pos.now sub.now result }
     {
@@ -224,7 +227,7 @@ fn uncounted<L: Ledger>(
     ensures { IsNextOf index.now pos.now sub.now result }
 {
     let mut steps = Steps::<L>::new(blank);
-    waiting::next_write(index, pos, sub, index.names(), &mut steps)
+    waiting::next_write(index, pos, sub, FIRST_ASK, &mut steps)
 }
 
 // Keeps the write, if the cut does not cover it and it is the first with its stamp.

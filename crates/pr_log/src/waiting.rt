@@ -17,13 +17,14 @@ use std::sync::ledger::Ledger;
 type Heads<'a> = [Option<&'a WriteRec>; 32];
 
 // The least write by stamp that is to one of the names and past the position. The nodes' writes are looked at in the
-// order of stamps, so that a write is looked at only if it comes before the answer or is the first of its node. After
-// so many looks at writes to other names it is asked once whether a write waits at all; 0 is never.
+// order of stamps, so that a write is looked at only if it comes before the answer or is the first of its node. Behind
+// `first` looks at writes to other names, and behind twice as many, and so on, it is asked whether a write waits at all;
+// 0 is never.
 pub fn next_write<L: Ledger>(
     index: &Index,
     pos: &Vector,
     sub: &NameSet,
-    looks: usize,
+    first: usize,
     steps: &mut Steps<L>,
 ) -> Option<WriteRec>
     ensures next { IsNextOf index.now pos.now sub.now result }
@@ -31,26 +32,38 @@ pub fn next_write<L: Ledger>(
 {
     index.by_stamp();
     let mut heads = heads(index, pos, steps);
-    let mut looks = looks;
+    let mut looks = 0usize;
+    let mut ask = first;
     while let Some(write) = least(&heads) {
         if sub.has(&write.name) {
             return Some(*write);
         }
-        if is_none_left(index, pos, sub, looks) {
+        looks = looks.saturating_add(1);
+        if is_none_left(index, pos, sub, looks, ask) {
             return None;
         }
-        looks = looks.saturating_sub(1);
+        ask = ask_after(looks, ask);
         let node = write.stamp.node();
         heads[node as usize] = index.next(node, write.stamp.clock(), steps);
     }
     None
 }
 
-// Whether the last of the looks was made, and no write waits.
-fn is_none_left(index: &Index, pos: &Vector, sub: &NameSet, looks: usize) -> bool
+// Whether it is asked behind so many looks, and no write waits. Of each interval no more names are looked at than there
+// were looks, and where there are more intervals it is not asked.
+fn is_none_left(index: &Index, pos: &Vector, sub: &NameSet, looks: usize, ask: usize) -> bool
     ensures { IsTrue result → (x : WriteRec) → ¬ IsWaiting index.now pos.now sub.now x }
 {
-    looks == 1 && !index.waits(pos, sub)
+    looks == ask && sub.count() <= looks && !index.may_wait(pos, sub, looks)
+}
+
+// Behind how many looks it is asked next.
+fn ask_after(looks: usize, ask: usize) -> usize {
+    if looks == ask {
+        ask.saturating_mul(2)
+    } else {
+        ask
+    }
 }
 
 // The first writes past the position.

@@ -93,12 +93,17 @@ impl Writes {
         }
     }
 
-    // Whether one of the names was written above the clock, in time linear in the names that were written, and past the
-    // last clock in constant time.
-    pub fn has_above(&self, clock: u64, names: &NameSet) -> bool
+    // Whether one of the names may have been written above the clock, where of each interval so many names are looked at;
+    // past the last clock in constant time.
+    pub fn may_have_above(&self, clock: u64, names: &NameSet, most: usize) -> bool
         ensures { result ≡ false → (o : List ℕ) → IsWrittenAbove self.now clock o → has names.now o ≡ false }
     {
-        self.last > clock && self.latest.has_above(clock, names)
+        self.last > clock && self.latest.may_have_above(clock, names, most)
+    }
+
+    // Whether there are more writes above the clock than names, of which the late ones all count.
+    pub fn is_much_above(&self, clock: u64) -> bool {
+        self.last > clock && self.by_clock.most_above(clock) > self.latest.names()
     }
 
     // Adds the names that were written above the clock and are none of these, in time linear in the names.
@@ -118,11 +123,6 @@ impl Writes {
         ensures { IsTrue result → IsUpTo clock self.now }
     {
         self.last <= clock
-    }
-
-    // How many names have a write.
-    pub fn names(&self) -> usize {
-        self.latest.names()
     }
 
     // Drops the writes up to the clock, in time linear in the writes.
