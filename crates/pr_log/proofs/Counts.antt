@@ -1,5 +1,5 @@
 -- How many writes are known, where one is added.
-use Rattle.std.proofs.Common.{cond, Result, Ok, Err, ◌≡◌, ℕ, ◌≤◌, ◌<◌, ◌+◌, zero, suc, List, [], ◌∷◌, length, get_or, set, Bool, true, false, refl, sym, ap, subst, arith, nat_lt, inl, inr, ◌≢◌}
+use Rattle.std.proofs.Common.{Result, Ok, Err, ◌≡◌, ℕ, ◌≤◌, ◌<◌, ◌+◌, zero, suc, List, [], ◌∷◌, length, get_or, set, Bool, true, false, refl, sym, ap, subst, arith, nat_lt, inl, inr, ◌≢◌}
 use Rattle.std.specs.Prelude.{OnOk}
 use Rattle.std.specs.declared.cmp.Ordering.{Ordering}
 use Rattle.std.specs.declared.cmp.Ordering.TheVariants.{Less, Equal, Greater}

@@ -1,5 +1,5 @@
 -- The clocks of the latest writes of one node.
-use Rattle.std.proofs.Common.{◌≡◌, ℕ, ◌≤◌, ◌<◌, List, [], ◌∷◌, Option, None, Some, Bool, true, false, cond, refl, sym, ◌∙◌, ap, subst, arith, inl, inr, nat_eq, nat_lt, max, ◌||◌, ◌&&◌, not}
+use Rattle.std.proofs.Common.{◌≡◌, ℕ, ◌≤◌, ◌<◌, List, [], ◌∷◌, Option, None, Some, Bool, true, false, cond, refl, sym, ◌∙◌, ap, arith, inl, inr, nat_lt, max, ◌||◌, ◌&&◌, not}
 use Rattle.std.specs.Prelude.{◌⊎◌, ◌↔◌, IsTrue, filter}
 use Rattle.std.specs.List.{IsDistinct}
 use Rattle.std.specs.Map.{keys_of}

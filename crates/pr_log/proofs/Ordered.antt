@@ -1,6 +1,6 @@
 -- Entries in the order of their clocks, and others behind them.
-use Rattle.std.proofs.Common.{◌≡◌, ℕ, ◌≤◌, ◌<◌, ◌+◌, ◌-◌, zero, suc, List, [], ◌∷◌, ◌++◌, length, get_or, Option, None, Some, Bool, true, false, cond, refl, sym, ◌∙◌, ap, subst, arith, inl, inr, nat_le, nat_lt, nat_eq, not, ◌||◌}
-use Rattle.std.specs.Prelude.{◌⊎◌, IfSome, IfNone, filter}
+use Rattle.std.proofs.Common.{◌≡◌, ℕ, ◌≤◌, ◌<◌, ◌+◌, ◌-◌, zero, suc, List, [], ◌∷◌, ◌++◌, length, get_or, take, drop, Option, None, Some, Bool, true, false, cond, refl, sym, ◌∙◌, ap, subst, arith, inl, inr, nat_le, nat_lt, nat_eq, not}
+use Rattle.std.specs.Prelude.{IfSome, IfNone, filter}
 use Rattle.std.specs.Borrow.{Bor}
 use Rattle.std.specs.BTreeMap.{insert_entry}
 use Rattle.std.specs.BTreeMap.Range.{IsLeBy, IsLtBy}
@@ -9,7 +9,7 @@ use Rattle.std.specs.declared.cmp.Ordering.{Ordering}
 use Rattle.std.specs.declared.cmp.Ordering.TheVariants.{Less, Equal, Greater}
 use Rattle.std.specs.Ordering.{is_eq, match_ordering, nat_cmp}
 use Rattle.std.proofs.lemmas.Bool.Decides.{nat_tests}
-use Rattle.std.proofs.lemmas.List.{get_or_default}
+use Rattle.std.proofs.lemmas.List.{get_or-drop, get_or_default, length-drop, take_all}
 use Rattle.std.proofs.lemmas.Map.Entries.{lookup-filter-keys}
 use Rattle.pr_inval.specs.declared.write_rec.WriteRec.{WriteRec}
 use Rattle.pr_log.specs.Entries.{IsFirstEntry, IsLesserEntry, Rise, entry_of, without}
@@ -80,6 +80,46 @@ is_up_to a c t = grind (arith, nat_tests)
 
 pub is_above : (a c : ℕ) → nat_le a c ≡ false → c < a
 is_above a c t = grind (arith, nat_tests)
+
+-- ---- the entries from a place on
+
+abbrev part : Entries → ℕ → Entries
+part es i = take (length es - i) (drop i es)
+
+part_is : (es : Entries) (i : ℕ) → part es i ≡ drop i es
+part_is es i = take_all (length es - i) (drop i es) (omega (arith, length-drop i es))
+
+part_at : (es : Entries) (i k : ℕ) (d : ℕ × WriteRec) → get_or (part es i) k d ≡ get_or es (i + k) d
+part_at es i k d = ap (λ l. get_or l k d) (part_is es i) ∙ get_or-drop i es k d
+
+part_length : (es : Entries) (i : ℕ) → length (part es i) ≡ length es - i
+part_length es i = ap length (part_is es i) ∙ length-drop i es
+
+pub rise_part : (es : Entries) (i : ℕ) → Rise es → Rise (part es i)
+rise_part es i h a b d lt within = omega (
+  arith,
+  h (i + a) (i + b) d (omega (arith, lt)) (omega (arith, within, part_length es i)),
+  ap (λ (e : ℕ × WriteRec). e.0) (part_at es i a d),
+  ap (λ (e : ℕ × WriteRec). e.0) (part_at es i b d),
+)
+
+-- those before a place with an entry up to the clock
+pub up_to_before : (es : Entries) (c at k : ℕ) (e d : ℕ × WriteRec) → Rise es → at < length es → (get_or es at e).0 ≤ c → k < at → (get_or es k d).0 ≤ c
+up_to_before es c at k e d h lt le before = omega (arith, h k at d before lt, le, ap (λ (x : ℕ × WriteRec). x.0) (get_or_default es at d e lt))
+
+-- how many are up to the clock is known of a part before which all are
+pub within_part : (es : Entries) (c i r k : ℕ) (d : ℕ × WriteRec) → ((k : ℕ) (d : ℕ × WriteRec) → k < i → (get_or es k d).0 ≤ c) → (i ≤ k → k < i + r → nat_le (get_or (part es i) (k - i) d).0 c ≡ true) → k < i + r → (get_or es k d).0 ≤ c
+within_part es c i r k d before within lt = elim (less_or k i) [
+  | inl less ↦ before k d less
+  | inr from ↦
+      let same : i + (k - i) ≡ k = omega (arith, from) in
+      omega (arith, is_up_to (get_or (part es i) (k - i) d).0 c (within from lt), ap (λ (e : ℕ × WriteRec). e.0) (part_at es i (k - i) d), ap (λ j. (get_or es j d).0) same)
+]
+
+pub above_part : (es : Entries) (c i r k : ℕ) (d : ℕ × WriteRec) → (r ≤ k - i → k - i < length (part es i) → nat_le (get_or (part es i) (k - i) d).0 c ≡ false) → i + r ≤ k → k < length es → c < (get_or es k d).0
+above_part es c i r k d above le lt =
+    let same : i + (k - i) ≡ k = omega (arith, le) in
+    omega (arith, is_above (get_or (part es i) (k - i) d).0 c (above (omega (arith, le)) (omega (arith, le, lt, part_length es i))), ap (λ (e : ℕ × WriteRec). e.0) (part_at es i (k - i) d), ap (λ j. (get_or es j d).0) same)
 
 pub none_in_order : (es : Entries) (c at : ℕ) → at ≡ length es → ((k : ℕ) (d : ℕ × WriteRec) → k < at → (get_or es k d).0 ≤ c) → IsFirstEntry es c None
 none_in_order es c at end within k above = none_of (at_clock es k) (λ some.

@@ -1,11 +1,11 @@
 -- The names to which a node wrote past a clock.
-use Rattle.std.proofs.Common.{◌≡◌, ℕ, ◌≤◌, ◌<◌, List, Some, Bool, false, refl, sym, ◌∙◌, ap, subst, arith, inl, inr}
+use Rattle.std.proofs.Common.{◌≡◌, ℕ, ◌≤◌, ◌<◌, List, Some, Bool, false, refl, sym, ◌∙◌, ap, subst, inl, inr}
 use Rattle.std.specs.Prelude.{◌⊎◌, ◌↔◌, IsTrue}
 use Rattle.pr_stamps.specs.Point.{Point}
 use Rattle.pr_names.specs.Span.{Span}
 use Rattle.pr_sets.specs.Spans.{has}
 use Rattle.pr_inval.specs.declared.write_rec.WriteRec.{WriteRec}
-use Rattle.pr_log.specs.Known.{Has, IsByStamp, IsOmittedOf, IsUpTo, at_clock, row_of}
+use Rattle.pr_log.specs.Known.{Has, IsByStamp, IsUpTo, at_clock, row_of}
 use Rattle.pr_log.specs.Latest.{AreLatest, IsAbove, IsWrittenAbove, WroteAbove}
 use Rattle.pr_log.proofs.Clocks.{less_or, some_none}
 use Rattle.pr_log.proofs.LastClocks.{kept_above, written_above}

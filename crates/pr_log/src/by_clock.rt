@@ -17,8 +17,8 @@ type Entry = (u64, WriteRec);
 
 type Map = BTreeMap<u64, WriteRec>;
 
-// Writes with their clocks. Those that came in the order of their clocks, as nearly all do, stand in a list, and the
-// others in a map.
+// Writes with their clocks. Those that came in the order of their clocks, as nearly all do, stand in a list that is
+// searched from its end, where streams ask, and the others in a map.
 #[derive(Drop)]
 pub struct ByClock {
     in_order: Vec<Entry>,
@@ -79,7 +79,7 @@ impl ByClock {
         has_in_order(&self.in_order, clock) || self.late.contains_key(&clock)
     }
 
-    // The first write above the clock with its clock, in logarithmic time.
+    // The first write above the clock with its clock, in time logarithmic in the writes above it and in the late ones.
     pub fn first_above(&self, clock: u64) -> Option<(u64, &WriteRec)>
         ensures { IsFirstEntry self.now clock (entry_of result) }
     {
@@ -136,14 +136,33 @@ fn has_in_order(entries: &[Entry], clock: u64) -> bool
     upto > 0 && entries[upto - 1].0 == clock
 }
 
-// How many of the entries are at clocks up to this one.
+// How many of the entries are at clocks up to this one, in time logarithmic in those above it.
 fn up_to(entries: &[Entry], clock: u64) -> usize
     requires { Rise entries.now }
     ensures most { result ≤ length entries.now }
     ensures within { (k : ℕ) (d : ℕ × WriteRec) → k < result → (slice_index_or entries.now k d).0 ≤ clock }
     ensures above { (k : ℕ) (d : ℕ × WriteRec) → result ≤ k → k < length entries.now → clock < (slice_index_or entries.now k d).0 }
 {
-    entries.partition_point(|(kept, _)| *kept <= clock)
+    let start = before(entries, clock);
+    start + entries[start..].partition_point(|(kept, _)| *kept <= clock)
+}
+
+// A place before which all entries are at clocks up to this one, found from the end by steps that double.
+fn before(entries: &[Entry], clock: u64) -> usize
+    requires { Rise entries.now }
+    ensures most { result ≤ length entries.now }
+    ensures within { (k : ℕ) (d : ℕ × WriteRec) → k < result → (slice_index_or entries.now k d).0 ≤ clock }
+{
+    let len = entries.len();
+    let mut back: usize = 1;
+    while back < len {
+        let at = len - back;
+        if entries[at].0 <= clock {
+            return at;
+        }
+        back = back.saturating_mul(2);
+    }
+    0
 }
 
 // The first entry of the map above the clock.

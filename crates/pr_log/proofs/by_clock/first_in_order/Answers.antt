@@ -1,4 +1,4 @@
-use Rattle.std.proofs.Common.{◌≡◌, ℕ, Some, arith, length, subst, sym}
+use Rattle.std.proofs.Common.{ℕ, Some, subst, sym}
 use Rattle.pr_inval.specs.declared.write_rec.WriteRec.{WriteRec}
 use Rattle.pr_log.specs.Entries.{IsFirstEntry}
 use Rattle.pr_log.proofs.Ordered.{first_in_order, none_in_order}

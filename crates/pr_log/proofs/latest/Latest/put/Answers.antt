@@ -1,4 +1,4 @@
-use Rattle.std.proofs.Common.{rules, ◌≡◌, ap, sym, ◌∙◌}
+use Rattle.std.proofs.Common.{rules, ◌≡◌}
 use Rattle.pr_log.specs.Latest.{clock_by, later_of}
 use Rattle.pr_log.proofs.LastClocks.{raised}
 use Rattle.pr_log.proofs.latest.Latest.put.Goals as goal

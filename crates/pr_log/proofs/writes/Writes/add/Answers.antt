@@ -1,4 +1,4 @@
-use Rattle.std.proofs.Common.{rules, ◌≡◌, None, ap, ◌∙◌}
+use Rattle.std.proofs.Common.{rules, ◌≡◌, None, ◌∙◌}
 use Rattle.pr_log.specs.Known.{at_clock}
 use Rattle.pr_log.proofs.LastClocks.{latest_more}
 use Rattle.pr_log.proofs.Rows.{none_by_test, put_up_to}
