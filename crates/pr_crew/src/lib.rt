@@ -30,4 +30,5 @@ pub use law::phases_are_assembled;
 pub use meet_gate::MeetGate;
 pub use phase_node::PhaseNode;
 pub use phasing::phase;
+pub use pr_flow::Stop;
 pub use story::Story;

@@ -140,14 +140,15 @@ impl Index {
         Ok(())
     }
 
-    // Whether a known write to one of the names may lie past the position, where of each node so many names of each
-    // interval are looked at.
+    // Whether a known write to one of the names may lie past the position, by at most so many looks at the intervals and
+    // the names of the nodes that wrote past it. An interval takes time logarithmic in the names of its node.
     pub(crate) fn may_wait(&self, pos: &Vector, sub: &NameSet, most: usize) -> bool
         ensures { result ≡ false → (x : WriteRec) → ¬ IsWaiting self.now pos.now sub.now x }
     {
         self.by_stamp();
+        let mut left = most;
         for n in 0..NODES {
-            if self.may_have_past(n, pos.at(n), sub, most) {
+            if self.may_have_past(n, pos.at(n), sub, &mut left) {
                 return true;
             }
         }
@@ -155,11 +156,11 @@ impl Index {
     }
 
     // Whether the node may have written to one of the names above the clock.
-    fn may_have_past(&self, writer: u32, from: u64, sub: &NameSet, most: usize) -> bool
+    fn may_have_past(&self, writer: u32, from: u64, sub: &NameSet, left: &mut usize) -> bool
         requires { writer < 32 }
         ensures { result ≡ false → (x : WriteRec) → Has self.now x → x.stamp.node ≡ writer → from < x.stamp.clock → has sub.now x.name ≡ false }
     {
-        self.rows[writer as usize].may_have_above(from, sub, most)
+        self.rows[writer as usize].may_have_above(from, sub, left)
     }
 
     // Adds the names of the node's writes above the clock that are none of these.

@@ -56,14 +56,14 @@ impl Latest {
         self.clocks.retain(|_, last| *last > clock);
     }
 
-    // Whether one of the names may have a write above the clock: of each interval so many names are looked at, and where
-    // there are more, the answer is yes. It takes time logarithmic in the names that have writes, for each interval, and
-    // linear in those that it looks at.
-    pub fn may_have_above(&self, clock: u64, names: &NameSet, most: usize) -> bool
+    // Whether one of the names may have a write above the clock. Each interval and each name that is looked at is taken
+    // from the looks that are left, and where none is left the answer is yes. An interval takes time logarithmic in the
+    // names that have writes.
+    pub fn may_have_above(&self, clock: u64, names: &NameSet, left: &mut usize) -> bool
         ensures { result ≡ false → (o : List ℕ) → IsAbove self.now clock o → has names.now o ≡ false }
     {
         for part in names.parts() {
-            if self.may_have_in(part, clock, most) {
+            if self.may_have_in(part, clock, left) {
                 return true;
             }
         }
@@ -71,18 +71,19 @@ impl Latest {
     }
 
     // The same of one interval.
-    fn may_have_in(&self, part: &Interval, clock: u64, most: usize) -> bool
+    fn may_have_in(&self, part: &Interval, clock: u64, left: &mut usize) -> bool
         ensures { result ≡ false → (o : List ℕ) → IsAbove self.now clock o → holds part.now o ≡ false }
     {
-        let mut left = most;
+        if !take_one(left) {
+            return true;
+        }
         for (_, last) in self
             .clocks
             .range((Bound::Included(part.lo()), end_of(part)))
         {
-            if *last > clock || left == 0 {
+            if *last > clock || !take_one(left) {
                 return true;
             }
-            left -= 1;
         }
         false
     }
@@ -113,6 +114,15 @@ impl Latest {
     pub fn names(&self) -> usize {
         self.clocks.len()
     }
+}
+
+// Takes one of what is left; whether there was one.
+fn take_one(left: &mut usize) -> bool {
+    if *left == 0 {
+        return false;
+    }
+    *left -= 1;
+    true
 }
 
 // The end of an interval, as that of a range of a map.

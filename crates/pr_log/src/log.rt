@@ -165,8 +165,9 @@ impl Log {
     }
 
     /// The least known write by stamp to one of the names whose point the position does not cover; None exactly where
-    /// there is none. It takes the time of `next_write_counted` a few times over at most; and where there is none, that
-    /// of some 16 steps, or of a few for each of the names that were written, for each interval. It takes no memory.
+    /// there is none. It takes the time of `next_write_counted` three times over at most. Behind 16 looks at writes to
+    /// other names, and behind twice as many each time, it looks at as many intervals of the subscription, and names in
+    /// them, of the nodes that wrote past the position; where these are all and none waits, it ends. It takes no memory.
     pub fn next_write(&self, pos: &Vector, sub: &NameSet) -> Option<WriteRec>
         ensures { IsNextOf self.now.known pos.now sub.now result }
     {
@@ -199,7 +200,7 @@ impl Log {
 
     /// The names outside the subscription of known writes at points between the vectors, in time logarithmic in the
     /// node's known writes, for each write between; where none of the writer's lies past the end, at most for each of its
-    /// names.
+    /// names. A name that comes right behind another costs a union with those before it.
     pub fn omitted_between(
         &self,
         from: &Vector,

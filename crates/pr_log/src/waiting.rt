@@ -49,12 +49,12 @@ pub fn next_write<L: Ledger>(
     None
 }
 
-// Whether it is asked behind so many looks, and no write waits. Of each interval no more names are looked at than there
-// were looks, and where there are more intervals it is not asked.
+// Whether it is asked behind so many looks, and no write waits. Asking looks at no more intervals and names than there
+// were looks.
 fn is_none_left(index: &Index, pos: &Vector, sub: &NameSet, looks: usize, ask: usize) -> bool
     ensures { IsTrue result → (x : WriteRec) → ¬ IsWaiting index.now pos.now sub.now x }
 {
-    looks == ask && sub.count() <= looks && !index.may_wait(pos, sub, looks)
+    looks == ask && !index.may_wait(pos, sub, looks)
 }
 
 // Behind how many looks it is asked next.

@@ -93,12 +93,12 @@ impl Writes {
         }
     }
 
-    // Whether one of the names may have been written above the clock, where of each interval so many names are looked at;
-    // past the last clock in constant time.
-    pub fn may_have_above(&self, clock: u64, names: &NameSet, most: usize) -> bool
+    // Whether one of the names may have been written above the clock, by so many looks at intervals and names as are
+    // left; past the last clock in constant time, and by none.
+    pub fn may_have_above(&self, clock: u64, names: &NameSet, left: &mut usize) -> bool
         ensures { result ≡ false → (o : List ℕ) → IsWrittenAbove self.now clock o → has names.now o ≡ false }
     {
-        self.last > clock && self.latest.may_have_above(clock, names, most)
+        self.last > clock && self.latest.may_have_above(clock, names, left)
     }
 
     // Whether there are more writes above the clock than names, of which the late ones all count.

@@ -269,7 +269,7 @@ impl Node {
     }
 
     /// The newest write to a name, by what the node was told, for a node that is not spent. It takes no memory, and
-    /// time linear in the sets and logarithmic in the names.
+    /// time linear in the sets and in the name's bodies, and logarithmic in the names.
     pub fn look(&self, name: &Name) -> Answer<'_>
         requires { (means self.now).spent ≡ false }
         ensures { IsAnswerAt (means self.now) name.now (reply_of result) }

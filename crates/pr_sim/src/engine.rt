@@ -26,7 +26,7 @@ pub struct Route {
 
 /// All nodes, streams and clients of a script, and the history: the node of each entry and its place in that node's
 /// journal. After a fault it is stopped: what it did is still told, and no further command is run. A node, or a stream's
-/// session, is absent only while a job of a phase has it.
+/// session, is absent only while a phase in threads has it, or once the run is over and its node was taken.
 #[derive(Drop)]
 pub struct Engine {
     pub(crate) alloc: Global,

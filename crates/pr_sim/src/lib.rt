@@ -22,4 +22,6 @@ pub use engine::Engine;
 pub use holding::running_engines_represent;
 pub use jobs::good_phases_can_be_run;
 pub use making::copied_sets;
+pub use pr_flow::Stop;
+pub use pr_text::met;
 pub use stepping::good_commands_can_be_run;

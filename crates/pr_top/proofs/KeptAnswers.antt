@@ -3,7 +3,7 @@ use Rattle.std.proofs.Common.{◌≡◌, ℕ, List, Option, None, inl, inr, refl
 use Rattle.std.specs.Prelude.{IfSome}
 use Rattle.pr_ports.specs.Faults.{HasRisen}
 use Rattle.pr_script.specs.declared.script.Script.{Script}
-use Rattle.pr_top.specs.Answers.{AnswersKept, IsOfRun, Ports, Writes, fault_line}
+use Rattle.pr_top.specs.Answers.{AnswersKept, IsOfRun, IsOfScript, Ports, Writes, fault_line}
 use Rattle.pr_top.specs.Outlived.{HasRunUntil}
 use Rattle.pr_top.specs.Reading.{HasScript}
 use Rattle.pr_top.specs.declared.status.Status.{Status}
@@ -14,9 +14,9 @@ module _ (stop : ℕ) (a b : Ports) (s : Script) (script : HasScript a.left b.le
   Until r = HasRunUntil stop r s (HasRisen a.write_faults b.write_faults) a.text b.text
 
   -- with the status of a run
-  of_run : (r : Status) → IsOfRun r → fault_line r ≡ None → (r ≡ status.WriteFault → HasRisen a.write_faults b.write_faults) → Until r → AnswersKept stop a b r
-  of_run r of none write until = record {
-    accepted = λ is. subst IsOfRun is of;
+  of_run : (r : Status) → IsOfRun r → IsOfScript r → fault_line r ≡ None → (r ≡ status.WriteFault → HasRisen a.write_faults b.write_faults) → Until r → AnswersKept stop a b r
+  of_run r of only none write until = record {
+    only = only;
     read_fault = λ is. absurd (subst IsOfRun is of);
     write_fault = write;
     too_large = λ is. absurd (subst IsOfRun is of);
@@ -31,13 +31,13 @@ module _ (stop : ℕ) (a b : Ports) (s : Script) (script : HasScript a.left b.le
   sink_failed (inr outlived) = outlived.written.0
 
   pub until_answers : (r : Status) → Until r → AnswersKept stop a b r
-  until_answers status.Ok until = of_run status.Ok tt refl (λ is. absurd (cc)) until
-  until_answers (status.Unmet line) until = of_run (status.Unmet line) tt refl (λ is. absurd (cc)) until
-  until_answers (status.Worn at) until = of_run (status.Worn at) tt refl (λ is. absurd (cc)) until
-  until_answers (status.Lied stream number sent got) until = of_run (status.Lied stream number sent got) tt refl (λ is. absurd (cc)) until
-  until_answers status.WriteFault until = of_run status.WriteFault tt refl (λ is. sink_failed until) until
+  until_answers status.Ok until = of_run status.Ok tt tt refl (λ is. absurd (cc)) until
+  until_answers (status.Unmet line) until = of_run (status.Unmet line) tt tt refl (λ is. absurd (cc)) until
+  until_answers (status.Worn at) until = of_run (status.Worn at) tt tt refl (λ is. absurd (cc)) until
+  until_answers (status.Lied stream number sent got) until = of_run (status.Lied stream number sent got) tt tt refl (λ is. absurd (cc)) until
+  until_answers status.WriteFault until = of_run status.WriteFault tt tt refl (λ is. sink_failed until) until
   until_answers status.NoMemory until = record {
-    accepted = λ is. cc;
+    only = tt;
     read_fault = λ is. absurd (cc);
     write_fault = λ is. absurd (cc);
     too_large = λ is. absurd (cc);

@@ -3,7 +3,7 @@ use Rattle.std.proofs.Common.{◌≡◌, ℕ, List, Option, None, inl, refl, sub
 use Rattle.std.specs.Prelude.{Bool, IfSome}
 use Rattle.pr_ports.specs.Faults.{HasRisen}
 use Rattle.pr_script.specs.declared.script.Script.{Script}
-use Rattle.pr_top.specs.Answers.{AnswersOver, IsOfRun, Ports, Writes, fault_line}
+use Rattle.pr_top.specs.Answers.{AnswersOver, IsOfRun, IsOfScript, Ports, Writes, fault_line}
 use Rattle.pr_top.specs.Carrying.{HasRunOver}
 use Rattle.pr_top.specs.Reading.{HasScript}
 use Rattle.pr_top.specs.declared.status.Status.{Status}
@@ -14,9 +14,9 @@ module _ (sound : ℕ → Bool) (carried carried_now : Option (List (List ℕ)))
   Over r = HasRunOver sound carried carried_now r s (HasRisen a.write_faults b.write_faults) a.text b.text
 
   -- with the status of a run
-  of_run : (r : Status) → IsOfRun r → fault_line r ≡ None → (r ≡ status.WriteFault → HasRisen a.write_faults b.write_faults) → Over r → AnswersOver sound carried carried_now a b r
-  of_run r of none write over = record {
-    accepted = λ is. subst IsOfRun is of;
+  of_run : (r : Status) → IsOfRun r → IsOfScript r → fault_line r ≡ None → (r ≡ status.WriteFault → HasRisen a.write_faults b.write_faults) → Over r → AnswersOver sound carried carried_now a b r
+  of_run r of only none write over = record {
+    only = only;
     read_fault = λ is. absurd (subst IsOfRun is of);
     write_fault = write;
     too_large = λ is. absurd (subst IsOfRun is of);
@@ -27,13 +27,13 @@ module _ (sound : ℕ → Bool) (carried carried_now : Option (List (List ℕ)))
   }
 
   pub over_answers : (r : Status) → Over r → AnswersOver sound carried carried_now a b r
-  over_answers status.Ok over = of_run status.Ok tt refl (λ is. absurd (cc)) over
-  over_answers (status.Unmet line) over = of_run (status.Unmet line) tt refl (λ is. absurd (cc)) over
-  over_answers (status.Worn at) over = of_run (status.Worn at) tt refl (λ is. absurd (cc)) over
-  over_answers (status.Lied stream number sent got) over = of_run (status.Lied stream number sent got) tt refl (λ is. absurd (cc)) over
-  over_answers status.WriteFault over = of_run status.WriteFault tt refl (λ is. over.0.written.0) over
+  over_answers status.Ok over = of_run status.Ok tt tt refl (λ is. absurd (cc)) over
+  over_answers (status.Unmet line) over = of_run (status.Unmet line) tt tt refl (λ is. absurd (cc)) over
+  over_answers (status.Worn at) over = of_run (status.Worn at) tt tt refl (λ is. absurd (cc)) over
+  over_answers (status.Lied stream number sent got) over = of_run (status.Lied stream number sent got) tt tt refl (λ is. absurd (cc)) over
+  over_answers status.WriteFault over = of_run status.WriteFault tt tt refl (λ is. over.0.written.0) over
   over_answers status.NoMemory over = record {
-    accepted = λ is. cc;
+    only = tt;
     read_fault = λ is. absurd (cc);
     write_fault = λ is. absurd (cc);
     too_large = λ is. absurd (cc);

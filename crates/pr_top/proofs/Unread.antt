@@ -16,7 +16,7 @@ use Rattle.pr_top.specs.declared.status.Status.TheVariants as status
 -- memory ran out, and the line alone was written
 short_run : (Runs : Status → Type 0) (a b : Ports) → Writes a b (error_line (codes "no memory")) → AnswersRun Runs a b status.NoMemory
 short_run Runs a b line = record {
-  accepted = λ is. cc;
+  only = tt;
   read_fault = λ is. absurd (cc);
   write_fault = λ is. absurd (cc);
   too_large = λ is. absurd (cc);
@@ -30,7 +30,7 @@ short_run Runs a b line = record {
 pub unread_run : (Runs : Status → Type 0) (a b : Ports) (error : ReadError) (result : Status) → IsReadSo a.left b.left a.read_faults b.read_faults (Err error)
     → IsUnreadFor error result (HasRisen a.write_faults b.write_faults) a.text b.text → AnswersRun Runs a b result
 unread_run Runs a b errors.Failed result read (ended, line) = subst (λ (r : Status). AnswersRun Runs a b r) (sym ended) (record {
-  accepted = λ is. cc;
+  only = tt;
   read_fault = λ is. read;
   write_fault = λ is. absurd (cc);
   too_large = λ is. absurd (cc);
@@ -40,7 +40,7 @@ unread_run Runs a b errors.Failed result read (ended, line) = subst (λ (r : Sta
   no_memory = λ is. absurd (cc);
 })
 unread_run Runs a b errors.TooLarge result read (ended, line) = subst (λ (r : Status). AnswersRun Runs a b r) (sym ended) (record {
-  accepted = λ is. cc;
+  only = tt;
   read_fault = λ is. absurd (cc);
   write_fault = λ is. absurd (cc);
   too_large = λ is. read;
@@ -51,7 +51,7 @@ unread_run Runs a b errors.TooLarge result read (ended, line) = subst (λ (r : S
 })
 unread_run Runs a b (errors.Bad line why) result read told = elim told [
   | inl t ↦ subst (λ (r : Status). AnswersRun Runs a b r) (sym t.0) (record {
-    accepted = λ is. cc;
+    only = tt;
     read_fault = λ is. absurd (cc);
     write_fault = λ is. absurd (cc);
     too_large = λ is. absurd (cc);

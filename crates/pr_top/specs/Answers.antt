@@ -62,6 +62,14 @@ IsOfRun status.WriteFault = Unit {0}
 IsOfRun (status.Lied stream number sent got) = Unit {0}
 IsOfRun _ = ⊥
 
+-- the status is one that reading a script and running it can come to
+abbrev pub IsOfScript : Status → Type 0
+IsOfScript status.Usage = ⊥
+IsOfScript (status.No line why) = ⊥
+IsOfScript (status.BadBytes at) = ⊥
+IsOfScript status.NoNode = ⊥
+IsOfScript _ = Unit {0}
+
 -- a script was read, and run with this status in one thread, over wires that are sound
 abbrev pub RunsScript : Ports → Ports → Status → Type 0
 RunsScript a b result =
@@ -90,7 +98,7 @@ IsUnaccepted a b _ = ⊥
 
 -- the answer where a script is to be read and run, of which it is told what it comes to with each status
 pub record AnswersRun (Runs : Status → Type 0) (a b : Ports) (result : Status) : Type 0 where
-  pub accepted : result ≡ status.Usage → ⊥
+  pub only : IsOfScript result
   -- a fault only where the object's own count rose
   pub read_fault : result ≡ status.ReadFault → HasRisen a.read_faults b.read_faults
   pub write_fault : result ≡ status.WriteFault → HasRisen a.write_faults b.write_faults
