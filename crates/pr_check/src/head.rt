@@ -26,7 +26,7 @@ pub fn no_decls(alloc: Global) -> Decls
 }
 
 /// The declarations with one more, whose head line this is, without its end; None where it is none. All head lines are
-/// read again, so it takes time linear in them.
+/// printed and read again, so it takes time linear in them, and for each label of a node in them in the declarations.
 pub fn read_head(alloc: Global, decls: &Decls, line: &[u8]) -> Result<Option<Decls>, NoMemory>
     requires { AreAccepted decls.now.list }
     ensures head { IfOk result (Declares decls.now.list line.now) }

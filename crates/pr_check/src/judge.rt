@@ -39,8 +39,9 @@ impl Judge {
         }
     }
 
-    /// The verdict on the next line, without its end. A head line takes time linear in the head lines before it, and any
-    /// other what the event takes that it tells, and the line's length. A spent judge answers NoMemory.
+    /// The verdict on the next line, without its end. A head line takes time linear in the head lines before it, and for
+    /// each label of a node in them in the declarations; any other what the event takes that it tells, and the line's
+    /// length. A spent judge answers NoMemory.
     pub fn line(&mut self, line: &[u8]) -> Result<Verdict, NoMemory>
         requires usable { IsUsable self.old }
         ensures verdict { (lines : List (List ℕ)) → Judges self.old lines → IsVerdict lines line.now self.new result }

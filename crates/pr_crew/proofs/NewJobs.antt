@@ -1,8 +1,8 @@
 -- A client's job at a new node's cell.
-use Rattle.std.proofs.Common.{◌≡◌, ℕ, zero, suc, ◌<◌, List, [], ◌∷◌, refl, sym, ◌∙◌, ap, subst, arith}
+use Rattle.std.proofs.Common.{◌≡◌, ℕ, zero, suc, ◌<◌, List, [], ◌∷◌, refl, sym, ◌∙◌, ap, subst}
 use Rattle.std.specs.Prelude.{Option, Some, false, reverse, slice_get}
 use Rattle.std.proofs.lemmas.List.{reverse-reverse}
-use Rattle.pr_cell.specs.Passes.{IsPassOf, held, opening_of, seen}
+use Rattle.pr_cell.specs.Passes.{IsPassOf, held, opening_of}
 use Rattle.pr_node.specs.Stored.{NodeMeaning, Stored, means}
 use Rattle.pr_story.specs.History.{Plan}
 use Rattle.pr_vectors.specs.Vector.{zero_vector}
@@ -15,7 +15,6 @@ use Rattle.pr_crew.specs.declared.task.Task.TheVariants as tasks
 use Rattle.pr_crew.specs.Making.{HasSeen, IsCellOf, NodeCell, NodePass}
 use Rattle.pr_crew.specs.Stories.{opened_of, stories}
 use Rattle.pr_crew.specs.Tasks.{IsFresh, IsReady}
-use Rattle.pr_crew.proofs.Starts.{same_since}
 
 -- all clients stand at node n, which has no sets
 pub one_node : ℕ → Plan

@@ -1,5 +1,5 @@
 -- What a phase adds whose flows ended as over sound wires.
-use Rattle.std.proofs.Common.{◌≡◌, ℕ, List, [], ◌∷◌, ◌++◌, Contains, inl, inr, sym, subst, reverse}
+use Rattle.std.proofs.Common.{◌≡◌, ℕ, List, [], ◌∷◌, Contains, inl, inr, subst, reverse}
 use Rattle.std.specs.Prelude.{IsTrue, Some, Result, slice_get}
 use Rattle.std.proofs.lemmas.List.Elements.{All-contains, All-nil}
 use Rattle.pr_flow.specs.declared.stop.Stop.{Stop}
@@ -13,7 +13,6 @@ use Rattle.pr_story.specs.declared.cause.Cause.TheVariants.{Failed, Ended}
 use Rattle.pr_story.specs.declared.event.Event.{Event}
 use Rattle.pr_story.specs.declared.event.Event.TheVariants.{Down}
 use Rattle.pr_story.specs.Clients.{is_of_client}
-use Rattle.pr_story.specs.Counts.{Declared}
 use Rattle.pr_story.specs.History.{NodeEntry, Plan}
 use Rattle.pr_story.specs.Merging.{New, plain}
 use Rattle.pr_text.specs.Steps.{stream_job}

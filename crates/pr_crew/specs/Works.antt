@@ -21,6 +21,14 @@ CanPlan s (owner.Stream stream) = stream < length s.sessions
 abbrev pub lines_of : Owner → List Numbered → ℕ
 lines_of mine inside = length (lines_by mine inside)
 
+-- the number of the job's first line
+abbrev pub number_of : List Numbered → ℕ
+number_of [] = 0
+number_of (line ∷ lines) = line.0
+
+abbrev pub first_line : Owner → List Numbered → ℕ
+first_line mine inside = number_of (lines_by mine inside)
+
 -- in a phase of these lines that begins after h, of so many nodes
 module _ (plan : Plan) (h : List NodeEntry) (count : ℕ) (inside : List Numbered) where
   pub record IsClientWork (client : ℕ) (w : ClientWork) : Type 0 where
@@ -36,6 +44,7 @@ module _ (plan : Plan) (h : List NodeEntry) (count : ℕ) (inside : List Numbere
     pub source : w.source < count
     pub destination_is : w.destination ≡ (plan.stream stream).destination
     pub destination : w.destination < count
+    pub line_is : w.line ≡ first_line (owner.Stream stream) inside
     pub turns_are : w.turns ≡ turns_in (lines_by (owner.Stream stream) inside)
 
   abbrev pub IsWork : Owner → Work → Type 0

@@ -19,7 +19,8 @@ use crate::client_calls::{delete, read, write};
 use crate::{Gate, PhaseNode};
 use pr_cell::{Cell, Pass};
 use pr_inval::NodeFault;
-use pr_script::{Command, Owner, is_same_owner, owner_of};
+use pr_script::{Command, Owner};
+use pr_text::is_owned_by;
 use pr_vectors::Vector;
 use std::sync::Wait;
 
@@ -70,7 +71,7 @@ fn run_line<R: Wait, G: Gate>(
     ensures pass { IsPassOf stories cell.now result.0 × IsSameCaller pass result.0 × (result.0.turns ≤ pass.turns + 1) }
     ensures ends { (plan : Plan) (h : List NodeEntry) (n k : ℕ) (xs : List New) → IsCellOf plan h n cell.now → IsSofar plan h n client k pass seen.old xs → EndsLine plan h n client k line.now xs result.0 seen.new result.1 }
 {
-    if !is_owned_by(client, &line.1) {
+    if !is_owned_by(Owner::Client(client), &line.1) {
         return (pass, Ok(()));
     }
     gate.reached(rt, line.0);
@@ -107,14 +108,5 @@ fn call<R: Wait>(
         Command::Delete { name, .. } => delete(rt, cell, pass, client, name, seen),
         Command::Read { name, .. } => read(rt, cell, pass, client, name, seen),
         _ => unreachable!(),
-    }
-}
-
-fn is_owned_by(client: u32, command: &Command) -> bool
-    ensures { result ≡ is_owned_by (owner.Client client) (owner_of command.now) }
-{
-    match owner_of(command) {
-        Some(owner) => is_same_owner(owner, Owner::Client(client)),
-        None => false,
     }
 }

@@ -1,9 +1,9 @@
 // What each job of a phase works on is looked up before the nodes are lent to them.
-ghost use Rattle.pr_crew.specs.Works.{AreWorks, CanPlan, IsSmall, IsWork};
+ghost use Rattle.pr_crew.specs.Works.{AreWorks, CanPlan, IsSmall, IsWork, first_line};
 ghost use Rattle.pr_script.specs.Steps.{turns_in};
 ghost use Rattle.pr_story.specs.Counts.{Declared};
 ghost use Rattle.pr_story.specs.History.{NodeEntry};
-ghost use Rattle.std.specs.Prelude.{◌≤◌, List, All, IfOk, length};
+ghost use Rattle.std.specs.Prelude.{◌≡◌, ◌≤◌, List, All, IfOk, length};
 
 use crate::work::{ClientWork, FlowWork, Work};
 use pr_merge::Held;
@@ -60,7 +60,9 @@ fn work_of<H: Held>(held: &H, owner: Owner, inside: &[(u64, Command)]) -> Work
 }
 
 // The number of the job's first line.
-fn first_line(mine: Owner, inside: &[(u64, Command)]) -> u64 {
+fn first_line(mine: Owner, inside: &[(u64, Command)]) -> u64
+    ensures { result ≡ first_line mine inside.now }
+{
     for line in inside {
         if is_owned_by(mine, &line.1) {
             return line.0;

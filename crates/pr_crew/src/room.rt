@@ -149,19 +149,7 @@ fn fill<H: Held<Node = Node>>(
     for node in 0..opened.len() {
         let room = mem::replace(&mut times[node], Vec::new(alloc));
         let made = times_since(held, node as u32, opened[node], room);
-        add(parts, Seq::from_vec(made));
-    }
-}
-
-// Adds an item where there is room for it.
-fn add<T: Drop>(items: &mut Vec<T>, item: T)
-    requires { vec_len items.old < vec_capacity items.old }
-    ensures items { items.new.items ≡ items.old.items ++ item ∷ [] }
-    ensures capacity { vec_capacity items.old ≤ vec_capacity items.new }
-{
-    match items.push(item) {
-        Ok(()) => {}
-        Err(_) => unreachable!(),
+        parts.push_reserved(Seq::from_vec(made));
     }
 }
 
@@ -197,7 +185,7 @@ fn times_of(entries: &[Entry], mut times: Vec<u64>) -> Vec<u64>
     ensures { result.items ≡ map (λ (e : Entry). e.time) entries.now }
 {
     for entry in entries {
-        add(&mut times, entry.time);
+        times.push_reserved(entry.time);
     }
     times
 }

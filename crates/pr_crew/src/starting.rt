@@ -44,19 +44,8 @@ pub(crate) fn start<H: Held<Node = Node>, W: Wires>(
     ensures sound_wires { ((k : ℕ) → IsTrue (W.sound wires.old k)) → All (HasSoundWire W.Wire.state) tasks.new.items }
 {
     for work in works {
-        add(tasks, start_one(held, wires, sites, work));
-    }
-}
-
-// Adds a job where there is room for it.
-fn add<W>(tasks: &mut Vec<Task<W>>, task: Task<W>)
-    requires { vec_len tasks.old < vec_capacity tasks.old }
-    ensures items { tasks.new.items ≡ tasks.old.items ++ task ∷ [] }
-    ensures capacity { vec_capacity tasks.old ≤ vec_capacity tasks.new }
-{
-    match tasks.push(task) {
-        Ok(()) => {}
-        Err(_) => unreachable!(),
+        let task = start_one(held, wires, sites, work);
+        tasks.push_reserved(task);
     }
 }
 

@@ -1,5 +1,5 @@
 -- What is told of flows whose wires are sound.
-use Rattle.std.specs.Prelude.{ℕ, List}
+use Rattle.std.specs.Prelude.{List}
 use Rattle.std.specs.List.{AllByRecursion}
 use Rattle.pr_story.specs.declared.cause.Cause.TheVariants.{Failed, Ended}
 use Rattle.pr_story.specs.declared.event.Event.{Event}

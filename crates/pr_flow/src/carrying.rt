@@ -21,8 +21,9 @@ pub enum Carried {
     Lied { sent: Bytes, got: Bytes },
 }
 
-/// Encodes a message, puts it into a wire that holds nothing, and decodes what is taken again, piece by piece. It takes
-/// memory for what it decodes, and for the encoding only where other bytes are taken.
+/// Encodes a message piece by piece, puts each into a wire that holds nothing, takes it again before the next, and decodes
+/// the message once all came. It takes memory for one frame and what is decoded of it, and for the encoding only where
+/// other bytes are taken.
 pub fn carry<W: Wire>(alloc: Global, msg: &Msg, wire: &mut W) -> Result<Carried, NoMemory>
     requires message { IsMessage msg.now }
     requires under { (W.state wire.old).under ≡ 0 }

@@ -87,7 +87,7 @@ impl Gaps {
         nth(self.sets.as_slice(), &self.rest, index)
     }
 
-    /// The number of the set that has the name, in time linear in the sets and their intervals.
+    /// The number of the set that has the name, in time linear in the sets and logarithmic in the intervals of each.
     pub fn set_of(&self, name: &Name) -> usize
         ensures within { result ≤ length self.now.sets }
         ensures value { set_at self.now.sets result ≡ set_of self.now.sets name.now }
@@ -102,7 +102,8 @@ impl Gaps {
     }
 
     /// The points of a message are told for each set that its target does not meet, and its end is joined to the
-    /// vector. For each set and node it takes time logarithmic in the ranges, for each range that is joined.
+    /// vector. It takes time linear in the intervals of the target and of the sets; and for each set and node logarithmic
+    /// in the ranges, for each range that is joined.
     pub fn cover(&mut self, from: &Vector, to: &Vector, target: &NameSet) -> Result<(), NoMemory>
         requires span { Le from.now to.now }
         requires from { Le from.now self.old.vector }

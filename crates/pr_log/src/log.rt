@@ -86,7 +86,8 @@ impl Log {
 
     /// Takes an invalidation: at its points the names that the target lacks are lit too, its end is joined to the
     /// vector, and its write, if it is precise, is known where it is the first with its stamp and the cut does not
-    /// cover it. For each node it takes time logarithmic in the dark sets of its points, for each that stands between.
+    /// cover it. For each node it takes time logarithmic in the dark sets of its points, for each that stands between,
+    /// and linear in the intervals of that set and of the target.
     pub fn refine(
         &mut self,
         from: &Vector,
@@ -112,11 +113,13 @@ impl Log {
         Ok(())
     }
 
-    /// Covers points at which every name is dark but at own points, as a checkpoint does, in constant time.
+    /// Covers points at which every name is dark but at own points, as a checkpoint does, in constant time. It takes no
+    /// memory: a spent log alone refuses it.
     pub fn darken(&mut self, to: &Vector) -> Result<(), NoMemory>
         ensures ok { OnOk result (IsDarkened self.old self.new to.now) }
         ensures works { OnOk result (self.new.spent ≡ false) }
         ensures err { OnErr result (self.new.spent ≡ true) }
+        ensures cause { OnErr result (self.old.spent ≡ true) }
         ensures spent { self.old.spent ≡ true → IsErr result }
     {
         if self.spent {

@@ -14,7 +14,7 @@ use pr_vectors::Vector;
 
 /// All nodes, streams and clients of a run, and its history: the node of each entry and its place in that node's
 /// journal. Nodes and sessions may be taken out and given back, and entries that the nodes made meanwhile are appended
-/// to the history then. Numbers are those of the declarations. All calls but `append` take constant time.
+/// to the history then. Numbers are those of the declarations. All calls but `reserve` and `append` take constant time.
 pub trait Held {
     type Node: Journaled;
 

@@ -13,7 +13,8 @@ pub enum Job {
     Gen { seed: u64, size: u64 },
     /// Judge a transcript.
     Check,
-    /// Run a script and keep its entries, and stop behind so many of them, from 2 to 1,000,000,000.
+    /// Run a script and keep its entries on a disk that answers so many calls, from 2 to 1,000,000,000, where that is
+    /// told, and then fails each.
     Kept { stop: Option<u64> },
     /// Ask for the streams of a node.
     Ask { node: Bytes },

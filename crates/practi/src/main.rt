@@ -1,4 +1,4 @@
-// Runs a script from standard input, and writes its transcript to standard output.
+// Does what its words ask for, from standard input to standard output.
 #![tactic(auto)]
 
 use pr_crew::FreeGate;

@@ -3,7 +3,7 @@
 
 use pr_draw::draw;
 use pr_ports::{ReaderSource, WriterSink};
-use pr_top::Status;
+use pr_top::{Status, tell};
 use std::env;
 use std::io::{self, ErrorKind};
 use std::process::ExitCode;
@@ -13,8 +13,10 @@ fn main(rt: HostRuntime) -> ExitCode {
     let mut out = WriterSink::new(io::writer(&rt));
     let status = match env::args(&rt) {
         Ok(words) => draw(rt.alloc(), words.skip(1).count(), &mut text, &mut out),
-        Err(error) if error.kind() == ErrorKind::OutOfMemory => Status::NoMemory,
-        Err(_) => Status::Usage,
+        Err(error) if error.kind() == ErrorKind::OutOfMemory => {
+            tell(&mut out, Status::NoMemory, b"error no memory\n")
+        }
+        Err(_) => tell(&mut out, Status::Usage, b"error usage\n"),
     };
     ExitCode::from(status.number())
 }

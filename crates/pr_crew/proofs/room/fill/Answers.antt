@@ -21,14 +21,14 @@ loop-node-preserved g c =
     let inv = c.loop-node.invariant in
     let next = c.loop-node-test.true in
     let room = inv.room in
-    let capacity = c.add.ensures.capacity in
+    let capacity = c.push_reserved.ensures.capacity in
     record {
       few = omega (arith, next);
-      long = pushed_length c.loop-node.parts.items c.add.new.items.items c.from_vec.result n c.add.ensures.items inv.long;
+      long = pushed_length c.loop-node.parts.items c.push_reserved.new.self.items c.from_vec.result n c.push_reserved.ensures.items inv.long;
       room = omega (arith, room, capacity);
       many = length-set c.loop-node.times.items n c.replace-room.new.dest ∙ inv.many;
       later = λ m any le. get_or-set_other c.loop-node.times.items n m c.replace-room.new.dest any (λ same. omega (arith, same, le)) ∙ inv.later m any (omega (arith, le));
-      parts = λ h nodes made. c.add.ensures.items
+      parts = λ h nodes made. c.push_reserved.ensures.items
           ∙ parts_more nodes n c.loop-node.parts.items c.from_vec.result (inv.parts h nodes made) (c.from_vec.ensures ∙ c.times_since-made.ensures.times (journal h n) (nodes n) (made n next));
       fits = λ h nodes made. fits_more c.args.opened.now nodes n (inv.fits h nodes made) (c.times_since-made.ensures.fits (journal h n) (nodes n) (made n next));
     }
