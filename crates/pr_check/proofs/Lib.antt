@@ -20,6 +20,7 @@ pub mod Begun
 pub mod Judged
 pub mod NoEnds
 pub mod CallersAside
+pub mod Determined
 pub mod Prefixes
 pub mod Refused
 pub mod Fronts

@@ -8,3 +8,4 @@ pub mod Judging
 pub mod Asking
 pub mod Standing
 pub mod Texts
+pub mod Determined

@@ -35,7 +35,10 @@ pub use field::behind;
 pub use head::{begins_head, no_decls, read_head};
 pub use judge::Judge;
 pub use judgement::Judgement;
-pub use law::{events_are_given_by_what_lines_say, transcripts_begin_line_by_line};
+pub use law::{
+    events_are_given_by_what_lines_say, sound_histories_of_a_script_agree,
+    transcripts_begin_line_by_line,
+};
 pub use line::read_line;
 pub use reading::Reading;
 pub use said::Said;

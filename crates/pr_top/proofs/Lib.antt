@@ -40,3 +40,4 @@ pub mod StatesTold
 pub mod OutlivedTexts
 pub mod StoppedDisks
 pub mod KeptAnswers
+pub mod Repeated

@@ -19,3 +19,4 @@ pub mod Unended
 pub mod Served
 pub mod Pulled
 pub mod Answers
+pub mod Repeating

@@ -8,6 +8,7 @@ mod checking;
 mod fronts;
 mod generating;
 mod keeping;
+mod law;
 mod left;
 mod nodes;
 mod outliving;
@@ -30,6 +31,7 @@ mod writing;
 
 pub use checking::{CheckError, MOST_BYTES, say};
 pub use keeping::{KeptEnd, kept};
+pub use law::runs_repeat;
 pub use status::Status;
 pub use telling::tell;
 pub use top::{alone, practi};
