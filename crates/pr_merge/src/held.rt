@@ -75,7 +75,8 @@ pub trait Held {
         requires { (client < (state self.now).clients) × ((d : Declared) × (h : List NodeEntry) × records self.now d h) }
         ensures { (d : Declared) (h : List NodeEntry) → records self.now d h → result ≡ client_vector h client };
 
-    /// Makes room for so many more places, or fewer. A refusal changes nothing else.
+    /// Makes room for so many more places, or fewer. A refusal changes nothing else. It takes time linear in the streams,
+    /// and in the places where they are moved.
     fn reserve(&mut self, more: usize) -> Result<(), NoMemory>
         ensures ok { OnOk result ((n : ℕ) → n ≤ more → has_room self.new n) }
         ensures state { state self.new ≡ state self.old }

@@ -1,5 +1,5 @@
 //! The plain program: the lines and the jobs that a script's commands are in its history, as the definitions have them.
-//! A run does not need them; they are there to be looked at.
+//! A run does not need them; the judge of transcripts says by `Asked` what a line was asked for.
 
 mod jobs;
 mod line;
