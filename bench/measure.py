@@ -22,7 +22,7 @@ def pair(streams):
 
 
 def filtered(n):
-    """A stream of one name in ten, a turn behind each ten writes."""
+    """A stream of one name in ten, two turns behind each ten writes."""
     lines = pair(["stream s A B h/*", "attach s"])
     for i in range(n):
         lines.append(f'write c {"h/" if i % 10 == 0 else "m/"}{i % 1000} "x"')
@@ -55,7 +55,7 @@ def ring(n):
 
 
 def bodies(n):
-    """Bodies of as many names as writes, a turn behind each."""
+    """Bodies of as many names as writes, two turns behind each."""
     lines = pair(["stream s A B * bodies", "attach s"])
     for i in range(n):
         lines += [f'write c n{i * 7919 % n:06} "x"', "flow s 2"]
