@@ -35,6 +35,11 @@ const SOUND: Ports<'static> = Ports {
     sink: (65536, &[]),
 };
 
+const BYTE_BY_BYTE: Ports<'static> = Ports {
+    source: (1, &[]),
+    sink: (65536, &[]),
+};
+
 // What a call answers, as an exit status, and the text that its sink took.
 fn called(
     rt: &(impl Threads + Wait + Sync),
@@ -78,13 +83,15 @@ fn answers(
     Ok(number == status && told.as_slice() == text)
 }
 
+// Whether a script gives this text, however many bytes come in a call.
 fn gives(
     rt: &(impl Threads + Wait + Sync),
     alloc: Global,
     script: &[u8],
     text: &[u8],
 ) -> Result<bool, Fail> {
-    answers(rt, alloc, script, &SOUND, 0, text)
+    let whole = answers(rt, alloc, script, &SOUND, 0, text)?;
+    Ok(whole && answers(rt, alloc, script, &BYTE_BY_BYTE, 0, text)?)
 }
 
 #[test]

@@ -43,7 +43,8 @@ fn run<W: Wires, G: Gate>(
     Ok((status.number(), Vec::from_slice(alloc, out.bytes())?))
 }
 
-// Whether the jobs at these lines met, and what was written is a transcript of a valid history.
+// Whether the jobs at these lines met, and what was written is a transcript of a valid history, all of whose lines are
+// judged.
 fn meets(
     rt: &(impl Threads + Wait + Sync),
     alloc: Global,
@@ -54,8 +55,16 @@ fn meets(
 {
     let gate = MeetGate::new(Vec::from_slice(alloc, lines)?, LOOKS);
     let (status, text) = run(rt, alloc, script, &mut TrueWires::new(), &gate)?;
-    let (judged, _) = called(rt, alloc, &["check"], &text, &SOUND)?;
-    Ok(status == 0 && judged == 0 && !gate.gave_up() && gate.lines_met() == lines.len())
+    let (judged, verdict) = called(rt, alloc, &["check"], &text, &SOUND)?;
+    let is_transcript = status == 0 && judged == 0 && counts_lines(&verdict, &text);
+    Ok(is_transcript && !gate.gave_up() && gate.lines_met() == lines.len())
+}
+
+// Whether the verdict is yes, with the number of lines that ends the text.
+fn counts_lines(verdict: &[u8], text: &[u8]) -> bool {
+    let (yes, lines) = verdict.split_at(verdict.len().min(4));
+    let (front, last) = text.split_at(text.len().saturating_sub(lines.len()));
+    yes == b"yes ".as_slice() && last == lines && front.ends_with(b"\nok ")
 }
 
 // The lines of the script `FLOW` before its flow, and the message that the flow sends.
