@@ -31,5 +31,5 @@ pub use law::{
 };
 pub use next::Next;
 pub use pieces::Pieces;
-pub use reading::{Bounds, Cursor};
+pub use reading::{Bounds, Cursor, message};
 pub use through::through_bytes;
