@@ -1,6 +1,6 @@
 // The fields of messages by themselves, as a file that is kept has them.
 ghost use Rattle.pr_wire.specs.Pieces.{left_text};
-ghost use Rattle.pr_wire.specs.Spelling.{list_text, mark_text, name_text, row_text, span_text, stamp_text, vector_text};
+ghost use Rattle.pr_wire.specs.Spelling.{eight, four, list_text, mark_text, name_text, row_text, span_text, stamp_text, vector_text};
 ghost use Rattle.pr_wire.specs.declared.format.Format.{Format};
 ghost use Rattle.std.specs.Prelude.{◌≡◌, ◌++◌, OnErr, OnOk};
 
@@ -11,6 +11,24 @@ use pr_names::Name;
 use pr_sets::NameSet;
 use pr_stamps::{Mark, NoMemory, Stamp};
 use pr_vectors::Vector;
+
+/// Adds a number in 4 bytes, the highest first, in constant time. A refusal leaves the bytes.
+#[tactic(auto, unfolding(crate::specs::Spelling::four))]
+pub fn append_four(number: u32, out: &mut Bytes) -> Result<(), NoMemory>
+    ensures ok { OnOk result (out.new ≡ out.old ++ four number) }
+    ensures err { OnErr result (out.new ≡ out.old) }
+{
+    out.extend(&number.to_be_bytes())
+}
+
+/// Adds a number in 8 bytes, the highest first, in constant time. A refusal leaves the bytes.
+#[tactic(auto, unfolding(crate::specs::Spelling::eight))]
+pub fn append_eight(number: u64, out: &mut Bytes) -> Result<(), NoMemory>
+    ensures ok { OnOk result (out.new ≡ out.old ++ eight number) }
+    ensures err { OnErr result (out.new ≡ out.old) }
+{
+    out.extend(&number.to_be_bytes())
+}
 
 /// Adds a name (docs/WIRE.md), in time linear in it. A refusal leaves the bytes.
 pub fn append_name(name: &Name, out: &mut Bytes) -> Result<(), NoMemory>

@@ -13,8 +13,8 @@ ghost use Rattle.pr_wire.specs.Feeding.{Event, Fed, Runs, bytes_given, bytes_tak
 ghost use Rattle.pr_wire.specs.Frames.{IsBad, IsFrame, IsPartial};
 ghost use Rattle.pr_inval.specs.Messages.{IsCheckpoint, IsMessage};
 ghost use Rattle.pr_wire.specs.Messages.{HasNoDelete, HasSpelling, IsCounted, IsInWidth};
-ghost use Rattle.pr_wire.specs.Reading.{mark_at, name_at, rows_at, stamp_at, target_at, vector_at};
-ghost use Rattle.pr_wire.specs.Spelling.{content, list_text, mark_text, name_text, row_text, span_text, spelling, stamp_text, vector_text};
+ghost use Rattle.pr_wire.specs.Reading.{eight_at, four_at, mark_at, name_at, rows_at, stamp_at, target_at, vector_at};
+ghost use Rattle.pr_wire.specs.Spelling.{content, eight, four, list_text, mark_text, name_text, row_text, span_text, spelling, stamp_text, vector_text};
 ghost use Rattle.std.specs.Prelude.{◌≡◌, ◌≤◌, ◌<◌, ◌^◌, ◌++◌, ℕ, List, Some, length};
 
 /// A message has just one spelling in format 2, and just one in format 1 where no write or row of it is a delete.
@@ -46,6 +46,8 @@ pub fn bad_bytes_stay_bad()
 
 /// A field that was written is read again, whatever follows it.
 pub fn fields_are_read_again()
+    ensures fours { (number : ℕ) (rest : List ℕ) → number < 2 ^ 32 → four_at (four number ++ rest) ≡ Some (number, rest) }
+    ensures eights { (number : ℕ) (rest : List ℕ) → number < 2 ^ 64 → eight_at (eight number ++ rest) ≡ Some (number, rest) }
     ensures names { (name rest : List ℕ) → IsName name → name_at (name_text name ++ rest) ≡ Some (name, rest) }
     ensures stamps { (stamp : Point) (rest : List ℕ) → IsStamp stamp → stamp_at (stamp_text stamp ++ rest) ≡ Some (stamp, rest) }
     ensures marks { (mark : Mark) (rest : List ℕ) → IsStamp mark.stamp → IsPrev mark.prev mark.stamp → mark_at (mark_text mark ++ rest) ≡ Some (mark, rest) }

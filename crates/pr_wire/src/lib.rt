@@ -18,7 +18,8 @@ mod width;
 mod writing;
 
 pub use appending::{
-    append_mark, append_name, append_rows, append_set, append_stamp, append_vector,
+    append_eight, append_four, append_mark, append_name, append_rows, append_set, append_stamp,
+    append_vector,
 };
 pub use encoding::encode;
 pub use fault::Fault;

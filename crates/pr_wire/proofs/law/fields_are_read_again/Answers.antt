@@ -1,9 +1,16 @@
 use Rattle.pr_wire.proofs.FieldLaws.{rows_again}
+use Rattle.pr_wire.proofs.Fields.{eight_field, four_field}
 use Rattle.pr_wire.proofs.ListFields.{target_field}
 use Rattle.pr_wire.proofs.NameFields.{name_field}
 use Rattle.pr_wire.proofs.StampFields.{mark_field, stamp_field}
 use Rattle.pr_wire.proofs.VectorFields.{vector_field}
 use Rattle.pr_wire.proofs.law.fields_are_read_again.Goals as goal
+
+pub returns-clause-fours : goal.returns-clause-fours
+returns-clause-fours c = four_field.again
+
+pub returns-clause-eights : goal.returns-clause-eights
+returns-clause-eights c = eight_field.again
 
 pub returns-clause-names : goal.returns-clause-names
 returns-clause-names c = name_field.again
