@@ -1,15 +1,14 @@
-// The fields of messages by themselves, as a file that is kept has them.
+// The fields of messages by themselves, as a kept file and an ask have them.
 ghost use Rattle.pr_wire.specs.Pieces.{left_text};
-ghost use Rattle.pr_wire.specs.Spelling.{eight, four, list_text, mark_text, name_text, row_text, span_text, stamp_text, vector_text};
-ghost use Rattle.pr_wire.specs.declared.format.Format.{Format};
+ghost use Rattle.pr_wire.specs.Spelling.{eight, four, list_text, name_text, span_text, stamp_text, vector_text};
 ghost use Rattle.std.specs.Prelude.{◌≡◌, ◌++◌, OnErr, OnOk};
 
 use crate::pieces::Pieces;
-use crate::writing::{Chunk, Left, put_eight, put_mark, put_name, put_stamp, put_vector};
-use pr_inval::{Bytes, Row};
+use crate::writing::{Chunk, Left, put_eight, put_name, put_stamp, put_vector};
+use pr_inval::Bytes;
 use pr_names::Name;
 use pr_sets::NameSet;
-use pr_stamps::{Mark, NoMemory, Stamp};
+use pr_stamps::{NoMemory, Stamp};
 use pr_vectors::Vector;
 
 /// Adds a number in 4 bytes, the highest first, in constant time. A refusal leaves the bytes.
@@ -50,16 +49,6 @@ pub fn append_stamp(stamp: &Stamp, out: &mut Bytes) -> Result<(), NoMemory>
     out.extend(chunk.as_slice())
 }
 
-/// Adds a mark (docs/WIRE.md), in constant time. A refusal leaves the bytes.
-pub fn append_mark(mark: &Mark, out: &mut Bytes) -> Result<(), NoMemory>
-    ensures ok { OnOk result (out.new ≡ out.old ++ mark_text mark.now) }
-    ensures err { OnErr result (out.new ≡ out.old) }
-{
-    let mut chunk = Chunk::new();
-    put_mark(&mut chunk, mark);
-    out.extend(chunk.as_slice())
-}
-
 /// Adds a vector (docs/WIRE.md), in constant time. A refusal leaves the bytes.
 pub fn append_vector(vector: &Vector, out: &mut Bytes) -> Result<(), NoMemory>
     ensures ok { OnOk result (out.new ≡ out.old ++ vector_text vector.now) }
@@ -79,17 +68,6 @@ pub fn append_set(set: &NameSet, out: &mut Bytes) -> Result<(), NoMemory>
     let mut chunk = Chunk::new();
     put_eight(&mut chunk, set.count() as u64);
     append(chunk, Left::Target(set.parts()), out)
-}
-
-/// Adds rows of a checkpoint (docs/WIRE.md), in time linear in their marks. A refusal leaves the bytes.
-#[tactic(auto, unfolding(crate::specs::Spelling::list_text))]
-pub fn append_rows(rows: &[Row], out: &mut Bytes) -> Result<(), NoMemory>
-    ensures ok { OnOk result (out.new ≡ out.old ++ list_text (row_text Format.Two) rows.now) }
-    ensures err { OnErr result (out.new ≡ out.old) }
-{
-    let mut chunk = Chunk::new();
-    put_eight(&mut chunk, rows.len() as u64);
-    append(chunk, Left::Rows(rows), out)
 }
 
 // Adds what is in the chunk, and then what is left.
