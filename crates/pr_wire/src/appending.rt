@@ -1,5 +1,4 @@
 // The fields of messages by themselves, as a kept file and an ask have them.
-ghost use Rattle.pr_wire.specs.Pieces.{left_text};
 ghost use Rattle.pr_wire.specs.Spelling.{eight, four, list_text, name_text, span_text, stamp_text, vector_text};
 ghost use Rattle.std.specs.Prelude.{◌≡◌, ◌++◌, OnErr, OnOk};
 
@@ -67,20 +66,5 @@ pub fn append_set(set: &NameSet, out: &mut Bytes) -> Result<(), NoMemory>
 {
     let mut chunk = Chunk::new();
     put_eight(&mut chunk, set.count() as u64);
-    append(chunk, Left::Target(set.parts()), out)
-}
-
-// Adds what is in the chunk, and then what is left.
-fn append(chunk: Chunk, left: Left, out: &mut Bytes) -> Result<(), NoMemory>
-    ensures ok { OnOk result (out.new ≡ out.old ++ (chunk.items ++ left_text left.entry)) }
-    ensures err { OnErr result (out.new ≡ out.old) }
-{
-    let len = out.len();
-    match Pieces::of(chunk, left).append_to(out) {
-        Ok(()) => Ok(()),
-        Err(_) => {
-            out.truncate(len);
-            Err(NoMemory)
-        }
-    }
+    Pieces::of(chunk, Left::Target(set.parts())).append_to(out)
 }
