@@ -3,9 +3,7 @@ ghost use Rattle.std.specs.Prelude.{◌≤◌, length, IfOk};
 
 use crate::{
     Cursor, Fault, Feed, Next, Pieces, append_name, append_set, append_stamp, append_vector,
-    bad_bytes_stay_bad, encode, feeds_give_what_was_pushed, fields_are_read_again,
-    frames_spell_one_message, messages_are_never_bad, messages_have_one_spelling,
-    no_frame_begins_another, through_bytes,
+    encode, through_bytes,
 };
 use pr_inval::{Bytes, Kind, Msg};
 use pr_names::{Interval, Name};
@@ -232,17 +230,6 @@ fn each_changed_bit_shows(rt: HostRuntime) -> Result<(), Fail> {
         assert!(rt; is_another(rt.alloc(), bit)?, "bit {bit}");
     }
     Ok(())
-}
-
-#[test]
-fn laws_are_called(_rt: HostRuntime) {
-    messages_have_one_spelling();
-    frames_spell_one_message();
-    no_frame_begins_another();
-    messages_are_never_bad();
-    feeds_give_what_was_pushed();
-    bad_bytes_stay_bad();
-    fields_are_read_again();
 }
 
 // ---- fields by themselves
