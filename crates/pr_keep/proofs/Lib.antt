@@ -3,7 +3,6 @@ pub mod Joining
 pub mod PartFields
 pub mod EventFields
 pub mod EntryFields
-pub mod MessageLemmas
 -- files
 pub mod FileLemmas
 pub mod RecordLemmas

@@ -7,10 +7,7 @@ ghost use Rattle.std.specs.Prelude.{◌≡◌, ℕ, List, [], IfSome, IsTrue};
 
 use crate::reading::whole_entry;
 use crate::spelling::append_entry;
-use crate::{
-    Disk, Keep, KeepFault, MemoryDisk, damaged_files_stand_for_nothing, files_stand_for_one_list,
-    kept_entries_are_read_again, read_entries_are_spelled,
-};
+use crate::{Disk, Keep, KeepFault, MemoryDisk};
 use pr_inval::{Bytes, Msg, WriteRec};
 use pr_names::Name;
 use pr_stamps::{Seq, Stamp};
@@ -328,12 +325,4 @@ fn are_damaged(alloc: Global) -> Option<bool> {
 #[test]
 fn a_damaged_file_is_told_by_its_first_wrong_byte(rt: HostRuntime) {
     assert!(rt; are_damaged(rt.alloc()).unwrap_or(false));
-}
-
-#[test]
-fn the_laws_hold(_rt: HostRuntime) {
-    kept_entries_are_read_again();
-    read_entries_are_spelled();
-    files_stand_for_one_list();
-    damaged_files_stand_for_nothing();
 }

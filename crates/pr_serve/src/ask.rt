@@ -1,14 +1,13 @@
 // What asks for a stream.
 ghost use Rattle.pr_serve.specs.Asks.{IsAsk, ask_at, ask_text, is_asking};
 ghost use Rattle.pr_wire.specs.Reading.{Gives};
-ghost use Rattle.pr_wire.specs.Spelling.{eight, four};
 ghost use Rattle.std.specs.Prelude.{◌≡◌, ◌≤◌, ◌++◌, List, IfOk, OnErr, OnOk, length, take, true};
 
 use pr_inval::Bytes;
 use pr_sets::NameSet;
 use pr_stamps::NoMemory;
 use pr_vectors::Vector;
-use pr_wire::{Cursor, Fault, Format, append_set, append_vector};
+use pr_wire::{Cursor, Fault, append_eight, append_four, append_set, append_vector};
 use std::alloc::Global;
 
 /// The most turns that an ask is for.
@@ -88,7 +87,7 @@ impl Ask {
         let stream = cursor.four()?;
         let start = cursor.vector()?;
         let sub = cursor.target(alloc)?;
-        let bodies = cursor.gone(Format::Two)?;
+        let bodies = cursor.flag()?;
         let turns = cursor.eight()?;
         if !is_asking(&sub, turns) {
             return Err(Fault::Bad);
@@ -111,20 +110,4 @@ fn is_asking(sub: &NameSet, turns: u64) -> bool
     ensures ranges { result ≡ true → (1 ≤ length sub.now) × (1 ≤ turns) × (turns ≤ 1000000) }
 {
     1 <= sub.count() && 1 <= turns && turns <= MOST_TURNS
-}
-
-#[tactic(auto, unfolding(pr_wire::specs::Spelling::four))]
-fn append_four(number: u32, out: &mut Bytes) -> Result<(), NoMemory>
-    ensures ok { OnOk result (out.new ≡ out.old ++ four number) }
-    ensures err { OnErr result (out.new ≡ out.old) }
-{
-    out.extend(&number.to_be_bytes())
-}
-
-#[tactic(auto, unfolding(pr_wire::specs::Spelling::eight))]
-fn append_eight(number: u64, out: &mut Bytes) -> Result<(), NoMemory>
-    ensures ok { OnOk result (out.new ≡ out.old ++ eight number) }
-    ensures err { OnErr result (out.new ≡ out.old) }
-{
-    out.extend(&number.to_be_bytes())
 }

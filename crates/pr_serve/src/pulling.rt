@@ -9,7 +9,7 @@ use crate::framing::{Part, next_part};
 use crate::serve_fault::ServeFault;
 use crate::stop::fault_of;
 use crate::window::Window;
-use pr_inval::{Msg, NodeFault};
+use pr_inval::Msg;
 use pr_node::Node;
 use pr_ports::Source;
 use std::alloc::Global;
@@ -67,9 +67,6 @@ fn take_in(node: &mut Node, msg: Msg) -> Result<(), ServeFault>
     requires { IsMessage msg }
     ensures { TakesOne (means node.old) (means node.new) msg result }
 {
-    match node.accept(CALLER, msg) {
-        Ok(_) => Ok(()),
-        Err(NodeFault::Worn { at }) => Err(ServeFault::Worn { at }),
-        Err(NodeFault::NoMemory) => Err(ServeFault::NoMemory),
-    }
+    node.accept(CALLER, msg)?;
+    Ok(())
 }

@@ -1,30 +1,11 @@
--- A checkpoint's rows are read again; and what is bad stays bad.
-use Rattle.std.proofs.Common.{IsTrue, true, nat_eq, ◌≡◌, ℕ, ◌+◌, ◌≤◌, List, [], ◌∷◌, ◌++◌, length, take, drop, Some, refl, sym, ap, subst, ◌∙◌, arith, inl, inr}
+-- What is bad stays bad; and what is left of a feed.
+use Rattle.std.proofs.Common.{IsTrue, true, nat_eq, ◌≡◌, ℕ, ◌+◌, ◌≤◌, List, [], ◌∷◌, ◌++◌, length, take, drop, refl, sym, ap, subst, ◌∙◌, arith, inl, inr}
 use Rattle.std.specs.Prelude.{slice_index}
 use Rattle.std.specs.Int.{w64, from_be_bytes}
 use Rattle.std.proofs.lemmas.Bool.Decides.{nat_tests}
 use Rattle.std.proofs.Math.Seq.{drop-length}
 use Rattle.std.proofs.lemmas.List.{drop-append-le, length-append, length-drop, take-append-le}
-use Rattle.pr_names.specs.Span.{Span}
-use Rattle.pr_sets.specs.Spans.{has}
-use Rattle.pr_inval.specs.declared.kind.Kind.TheVariants.{Checkpoint}
-use Rattle.pr_inval.specs.declared.row.Row.{Row}
-use Rattle.pr_wire.specs.declared.format.Format.TheVariants.{Two}
 use Rattle.pr_wire.specs.Frames.{IsBad, IsTooLong, IsWhole, HasNoFormat, frame_of, said_length}
-use Rattle.pr_inval.specs.Messages.{IsCheckpoint, IsEarlierRow}
-use Rattle.pr_wire.specs.Messages.{IsCounted}
-use Rattle.pr_wire.specs.Reading.{last_before, row_at, row_before, rows_at}
-use Rattle.pr_wire.specs.Spelling.{list_text, row_text}
-use Rattle.pr_wire.proofs.ListFields.{IsRowIn, list_field, order_row, rises_follow, row_field}
-use Rattle.pr_wire.proofs.KindFields.{rows_two}
-
-pub rows_again : (to floor : List ℕ) (target : List Span) (rows : List Row) (rest : List ℕ) → IsCheckpoint to (has target) floor rows → IsCounted (Checkpoint to target floor rows) → rows_at Two floor to target (list_text (row_text Two) rows ++ rest) ≡ Some (rows, rest)
-rows_again to floor target rows rest is few =
-    (list_field (row_at Two floor to target) (row_text Two) (IsRowIn Two floor to target) (row_field Two floor to target) (last_before row_before)).again rows rest (record {
-      each = rows_two floor to target rows is.each few.2;
-      order = rises_follow IsEarlierRow row_before order_row rows [] is.in_order;
-      few = few.1;
-    })
 
 -- ---- more bytes behind those that are in
 

@@ -166,7 +166,7 @@ rows_one : (floor to : List ℕ) (target : List Span) (rows : List Row) → AllB
 rows_one floor to target [] h few kept = tt
 rows_one floor to target (r ∷ rs) h few kept = (record { row = h.0; few = few.0; gone = kept.0 }, rows_one floor to target rs h.1 few.1 kept.1)
 
-pub rows_two : (floor to : List ℕ) (target : List Span) (rows : List Row) → AllByRecursion (IsRow floor to (has target)) rows → AllByRecursion HasFewMarks rows → AllByRecursion (IsRowIn Two floor to target) rows
+rows_two : (floor to : List ℕ) (target : List Span) (rows : List Row) → AllByRecursion (IsRow floor to (has target)) rows → AllByRecursion HasFewMarks rows → AllByRecursion (IsRowIn Two floor to target) rows
 rows_two floor to target [] h few = tt
 rows_two floor to target (r ∷ rs) h few = (record { row = h.0; few = few.0; gone = tt }, rows_two floor to target rs h.1 few.1)
 

@@ -1,16 +1,32 @@
-// The fields of messages by themselves, as a file that is kept has them.
-ghost use Rattle.pr_wire.specs.Pieces.{left_text};
-ghost use Rattle.pr_wire.specs.Spelling.{list_text, mark_text, name_text, row_text, span_text, stamp_text, vector_text};
-ghost use Rattle.pr_wire.specs.declared.format.Format.{Format};
+// The fields of messages by themselves, as a kept file and an ask have them.
+ghost use Rattle.pr_wire.specs.Spelling.{eight, four, list_text, name_text, span_text, stamp_text, vector_text};
 ghost use Rattle.std.specs.Prelude.{◌≡◌, ◌++◌, OnErr, OnOk};
 
 use crate::pieces::Pieces;
-use crate::writing::{Chunk, Left, put_eight, put_mark, put_name, put_stamp, put_vector};
-use pr_inval::{Bytes, Row};
+use crate::writing::{Chunk, Left, put_eight, put_name, put_stamp, put_vector};
+use pr_inval::Bytes;
 use pr_names::Name;
 use pr_sets::NameSet;
-use pr_stamps::{Mark, NoMemory, Stamp};
+use pr_stamps::{NoMemory, Stamp};
 use pr_vectors::Vector;
+
+/// Adds a number in 4 bytes, the highest first, in constant time. A refusal leaves the bytes.
+#[tactic(auto, unfolding(crate::specs::Spelling::four))]
+pub fn append_four(number: u32, out: &mut Bytes) -> Result<(), NoMemory>
+    ensures ok { OnOk result (out.new ≡ out.old ++ four number) }
+    ensures err { OnErr result (out.new ≡ out.old) }
+{
+    out.extend(&number.to_be_bytes())
+}
+
+/// Adds a number in 8 bytes, the highest first, in constant time. A refusal leaves the bytes.
+#[tactic(auto, unfolding(crate::specs::Spelling::eight))]
+pub fn append_eight(number: u64, out: &mut Bytes) -> Result<(), NoMemory>
+    ensures ok { OnOk result (out.new ≡ out.old ++ eight number) }
+    ensures err { OnErr result (out.new ≡ out.old) }
+{
+    out.extend(&number.to_be_bytes())
+}
 
 /// Adds a name (docs/WIRE.md), in time linear in it. A refusal leaves the bytes.
 pub fn append_name(name: &Name, out: &mut Bytes) -> Result<(), NoMemory>
@@ -32,16 +48,6 @@ pub fn append_stamp(stamp: &Stamp, out: &mut Bytes) -> Result<(), NoMemory>
     out.extend(chunk.as_slice())
 }
 
-/// Adds a mark (docs/WIRE.md), in constant time. A refusal leaves the bytes.
-pub fn append_mark(mark: &Mark, out: &mut Bytes) -> Result<(), NoMemory>
-    ensures ok { OnOk result (out.new ≡ out.old ++ mark_text mark.now) }
-    ensures err { OnErr result (out.new ≡ out.old) }
-{
-    let mut chunk = Chunk::new();
-    put_mark(&mut chunk, mark);
-    out.extend(chunk.as_slice())
-}
-
 /// Adds a vector (docs/WIRE.md), in constant time. A refusal leaves the bytes.
 pub fn append_vector(vector: &Vector, out: &mut Bytes) -> Result<(), NoMemory>
     ensures ok { OnOk result (out.new ≡ out.old ++ vector_text vector.now) }
@@ -60,31 +66,5 @@ pub fn append_set(set: &NameSet, out: &mut Bytes) -> Result<(), NoMemory>
 {
     let mut chunk = Chunk::new();
     put_eight(&mut chunk, set.count() as u64);
-    append(chunk, Left::Target(set.parts()), out)
-}
-
-/// Adds rows of a checkpoint (docs/WIRE.md), in time linear in their marks. A refusal leaves the bytes.
-#[tactic(auto, unfolding(crate::specs::Spelling::list_text))]
-pub fn append_rows(rows: &[Row], out: &mut Bytes) -> Result<(), NoMemory>
-    ensures ok { OnOk result (out.new ≡ out.old ++ list_text (row_text Format.Two) rows.now) }
-    ensures err { OnErr result (out.new ≡ out.old) }
-{
-    let mut chunk = Chunk::new();
-    put_eight(&mut chunk, rows.len() as u64);
-    append(chunk, Left::Rows(rows), out)
-}
-
-// Adds what is in the chunk, and then what is left.
-fn append(chunk: Chunk, left: Left, out: &mut Bytes) -> Result<(), NoMemory>
-    ensures ok { OnOk result (out.new ≡ out.old ++ (chunk.items ++ left_text left.entry)) }
-    ensures err { OnErr result (out.new ≡ out.old) }
-{
-    let len = out.len();
-    match Pieces::of(chunk, left).append_to(out) {
-        Ok(()) => Ok(()),
-        Err(_) => {
-            out.truncate(len);
-            Err(NoMemory)
-        }
-    }
+    Pieces::of(chunk, Left::Target(set.parts())).append_to(out)
 }

@@ -16,12 +16,5 @@ pub fn encode(msg: &Msg, out: &mut Bytes) -> Result<(), NoMemory>
     ensures err { OnErr result (out.new ≡ out.old) }
     ensures width { IsInWidth msg.now }
 {
-    let len = out.len();
-    match Pieces::new(msg).append_to(out) {
-        Ok(()) => Ok(()),
-        Err(_) => {
-            out.truncate(len);
-            Err(NoMemory)
-        }
-    }
+    Pieces::new(msg).append_to(out)
 }

@@ -1,20 +1,17 @@
 // Laws of the grammar, and of feeds.
-ghost use Rattle.pr_inval.specs.declared.kind.Kind.TheVariants.{Checkpoint};
 ghost use Rattle.pr_inval.specs.declared.msg.Msg.{Msg};
-ghost use Rattle.pr_inval.specs.declared.row.Row.{Row};
 ghost use Rattle.pr_names.specs.Name.{IsName};
 ghost use Rattle.pr_names.specs.Span.{Span};
-ghost use Rattle.pr_sets.specs.Spans.{IsSet, has};
-ghost use Rattle.pr_stamps.specs.Point.{IsStamp, Point, IsPrev};
-ghost use Rattle.pr_stamps.specs.declared.mark.Mark.{Mark};
+ghost use Rattle.pr_sets.specs.Spans.{IsSet};
+ghost use Rattle.pr_stamps.specs.Point.{IsStamp, Point};
 ghost use Rattle.pr_vectors.specs.Vector.{IsVector};
 ghost use Rattle.pr_wire.specs.declared.format.Format.{Format};
 ghost use Rattle.pr_wire.specs.Feeding.{Event, Fed, Runs, bytes_given, bytes_taken, counted, new_feed};
 ghost use Rattle.pr_wire.specs.Frames.{IsBad, IsFrame, IsPartial};
-ghost use Rattle.pr_inval.specs.Messages.{IsCheckpoint, IsMessage};
-ghost use Rattle.pr_wire.specs.Messages.{HasNoDelete, HasSpelling, IsCounted, IsInWidth};
-ghost use Rattle.pr_wire.specs.Reading.{mark_at, name_at, rows_at, stamp_at, target_at, vector_at};
-ghost use Rattle.pr_wire.specs.Spelling.{content, list_text, mark_text, name_text, row_text, span_text, spelling, stamp_text, vector_text};
+ghost use Rattle.pr_inval.specs.Messages.{IsMessage};
+ghost use Rattle.pr_wire.specs.Messages.{HasNoDelete, HasSpelling, IsInWidth};
+ghost use Rattle.pr_wire.specs.Reading.{eight_at, four_at, name_at, stamp_at, target_at, vector_at};
+ghost use Rattle.pr_wire.specs.Spelling.{content, eight, four, list_text, name_text, span_text, spelling, stamp_text, vector_text};
 ghost use Rattle.std.specs.Prelude.{◌≡◌, ◌≤◌, ◌<◌, ◌^◌, ◌++◌, ℕ, List, Some, length};
 
 /// A message has just one spelling in format 2, and just one in format 1 where no write or row of it is a delete.
@@ -46,12 +43,12 @@ pub fn bad_bytes_stay_bad()
 
 /// A field that was written is read again, whatever follows it.
 pub fn fields_are_read_again()
+    ensures fours { (number : ℕ) (rest : List ℕ) → number < 2 ^ 32 → four_at (four number ++ rest) ≡ Some (number, rest) }
+    ensures eights { (number : ℕ) (rest : List ℕ) → number < 2 ^ 64 → eight_at (eight number ++ rest) ≡ Some (number, rest) }
     ensures names { (name rest : List ℕ) → IsName name → name_at (name_text name ++ rest) ≡ Some (name, rest) }
     ensures stamps { (stamp : Point) (rest : List ℕ) → IsStamp stamp → stamp_at (stamp_text stamp ++ rest) ≡ Some (stamp, rest) }
-    ensures marks { (mark : Mark) (rest : List ℕ) → IsStamp mark.stamp → IsPrev mark.prev mark.stamp → mark_at (mark_text mark ++ rest) ≡ Some (mark, rest) }
     ensures vectors { (vector rest : List ℕ) → IsVector vector → vector_at (vector_text vector ++ rest) ≡ Some (vector, rest) }
     ensures sets { (set : List Span) (rest : List ℕ) → IsSet set → length set < 2 ^ 64 → target_at (list_text span_text set ++ rest) ≡ Some (set, rest) }
-    ensures rows { (to floor : List ℕ) (target : List Span) (rows : List Row) (rest : List ℕ) → IsCheckpoint to (has target) floor rows → IsCounted (Checkpoint to target floor rows) → rows_at Format.Two floor to target (list_text (row_text Format.Two) rows ++ rest) ≡ Some (rows, rest) }
 {}
 
 /// Whatever is pushed into a feed, and whenever messages are asked for: the bytes that were pushed are the spellings

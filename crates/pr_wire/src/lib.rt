@@ -18,7 +18,7 @@ mod width;
 mod writing;
 
 pub use appending::{
-    append_mark, append_name, append_rows, append_set, append_stamp, append_vector,
+    append_eight, append_four, append_name, append_set, append_stamp, append_vector,
 };
 pub use encoding::encode;
 pub use fault::Fault;
@@ -31,5 +31,5 @@ pub use law::{
 };
 pub use next::Next;
 pub use pieces::Pieces;
-pub use reading::{Bounds, Cursor};
+pub use reading::{Cursor, message};
 pub use through::through_bytes;

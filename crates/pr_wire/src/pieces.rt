@@ -4,7 +4,7 @@ ghost use Rattle.pr_wire.specs.Messages.{IsInWidth};
 ghost use Rattle.pr_wire.specs.Pieces.{left_text, rest_of};
 ghost use Rattle.pr_wire.specs.Spelling.{content, eight, spelling};
 ghost use Rattle.pr_wire.specs.declared.format.Format.{Format};
-ghost use Rattle.std.specs.Prelude.{◌≡◌, ◌≤◌, ◌<◌, ◌+◌, ◌-◌, ◌%◌, ◌^◌, [], ◌∷◌, ◌++◌, length, min, take, drop, true, false, OnOk};
+ghost use Rattle.std.specs.Prelude.{◌≡◌, ◌≤◌, ◌<◌, ◌+◌, ◌-◌, ◌%◌, ◌^◌, [], ◌∷◌, ◌++◌, length, min, take, drop, true, false, OnErr, OnOk};
 
 use crate::width::known_width;
 use crate::writing::{Chunk, Left, put_byte, put_eight, step};
@@ -58,13 +58,17 @@ impl<'a> Pieces<'a> {
         filled
     }
 
-    /// Adds the whole rest at the end. After a refusal a beginning of it was added.
+    /// Adds the whole rest at the end, in time linear in it. A refusal leaves the bytes.
     pub(crate) fn append_to(&mut self, out: &mut Bytes) -> Result<(), NoMemory>
         ensures ok { OnOk result (out.new ≡ out.old ++ rest_of self.old) }
-        ensures kept { take (length out.old) out.new ≡ out.old }
+        ensures err { OnErr result (out.new ≡ out.old) }
     {
+        let len = out.len();
         while self.refill() {
-            out.extend(&self.chunk.as_slice()[self.at..])?;
+            if out.extend(&self.chunk.as_slice()[self.at..]).is_err() {
+                out.truncate(len);
+                return Err(NoMemory);
+            }
             self.at = self.chunk.len();
         }
         Ok(())

@@ -8,4 +8,3 @@ mod vectors;
 
 pub use cursor::Cursor;
 pub use kinds::message;
-pub use lists::Bounds;

@@ -2,15 +2,13 @@ ghost use Rattle.pr_inval.specs.Messages.{IsMessage};
 ghost use Rattle.std.specs.Prelude.{◌≤◌, length, IfOk};
 
 use crate::{
-    Bounds, Cursor, Fault, Feed, Format, Next, Pieces, append_mark, append_name, append_rows,
-    append_set, append_stamp, append_vector, bad_bytes_stay_bad, encode,
-    feeds_give_what_was_pushed, fields_are_read_again, frames_spell_one_message,
-    messages_are_never_bad, messages_have_one_spelling, no_frame_begins_another, through_bytes,
+    Cursor, Fault, Feed, Next, Pieces, append_name, append_set, append_stamp, append_vector,
+    encode, through_bytes,
 };
-use pr_inval::{Bytes, Kind, Msg, Row};
+use pr_inval::{Bytes, Kind, Msg};
 use pr_names::{Interval, Name};
 use pr_sets::NameSet;
-use pr_stamps::{MAX, Mark, NoMemory, Seq, Stamp};
+use pr_stamps::{MAX, NoMemory, Seq, Stamp};
 use pr_vectors::Vector;
 use std::alloc::Global;
 use std::test::Fail;
@@ -234,72 +232,32 @@ fn each_changed_bit_shows(rt: HostRuntime) -> Result<(), Fail> {
     Ok(())
 }
 
-#[test]
-fn laws_are_called(_rt: HostRuntime) {
-    messages_have_one_spelling();
-    frames_spell_one_message();
-    no_frame_begins_another();
-    messages_are_never_bad();
-    feeds_give_what_was_pushed();
-    bad_bytes_stay_bad();
-    fields_are_read_again();
-}
-
 // ---- fields by themselves
 
-// The name a/x, the stamp 3@1, a mark of it with none before, the vector of it, the set of b/*, and one row of the name
-// and the stamp without a mark.
-const FIELDS: [u8; 77] = [
-    3, 97, 47, 120, 0, 0, 0, 0, 0, 0, 0, 3, 1, 0, 0, 0, 0, 0, 0, 0, 3, 1, 0, 1, 1, 0, 0, 0, 0, 0,
-    0, 0, 3, 0, 0, 0, 0, 0, 0, 0, 1, 2, 98, 47, 2, 98, 48, 0, 0, 0, 0, 0, 0, 0, 1, 3, 97, 47, 120,
-    0, 0, 0, 0, 0, 0, 0, 3, 1, 0, 0, 0, 0, 0, 0, 0, 0, 0,
+// The name a/x, the stamp 3@1, the vector of it, and the set of b/*.
+const FIELDS: [u8; 37] = [
+    3, 97, 47, 120, 0, 0, 0, 0, 0, 0, 0, 3, 1, 1, 1, 0, 0, 0, 0, 0, 0, 0, 3, 0, 0, 0, 0, 0, 0, 0,
+    1, 2, 98, 47, 2, 98, 48,
 ];
 
 fn appended(alloc: Global, name: &Name, stamp: &Stamp, set: &NameSet) -> Result<Bytes, NoMemory> {
     let mut vector = Vector::zero();
     vector.raise(stamp);
-    let mut rows = Seq::new(alloc);
-    rows.push(Row {
-        name: *name,
-        newest: *stamp,
-        gone: false,
-        marks: Seq::new(alloc),
-    })?;
     let mut out = Seq::new(alloc);
     append_name(name, &mut out)?;
     append_stamp(stamp, &mut out)?;
-    append_mark(
-        &Mark {
-            stamp: *stamp,
-            prev: None,
-        },
-        &mut out,
-    )?;
     append_vector(&vector, &mut out)?;
     append_set(set, &mut out)?;
-    append_rows(rows.as_slice(), &mut out)?;
     Ok(out)
 }
 
-// How many rows stand behind the other fields, where these are of the name and the stamp.
-fn rows_read(alloc: Global, bytes: &[u8], name: &Name, stamp: &Stamp) -> Result<usize, Fault> {
+// Whether the bytes are fields of the name and the stamp, and a set of one interval.
+fn are_read(alloc: Global, bytes: &[u8], name: &Name, stamp: &Stamp) -> Result<bool, Fault> {
     let mut cursor = Cursor { rest: bytes };
     let same = cursor.name()? == *name && cursor.stamp()? == *stamp;
-    let mark = cursor.mark()?;
-    let to = cursor.vector()?;
-    let target = cursor.target(alloc)?;
-    let bounds = Bounds {
-        format: Format::Two,
-        to: &to,
-        target: &target,
-        floor: &Vector::zero(),
-    };
-    let rows = cursor.rows(alloc, &bounds)?;
-    if same && mark.stamp == *stamp && cursor.rest.is_empty() {
-        Ok(rows.len())
-    } else {
-        Err(Fault::Bad)
-    }
+    let vector = cursor.vector()?;
+    let set = cursor.target(alloc)?;
+    Ok(same && vector.at(1) == 3 && set.count() == 1 && cursor.rest.is_empty())
 }
 
 #[test]
@@ -312,7 +270,7 @@ fn fields_are_appended_and_read(rt: HostRuntime) -> Result<(), Fail> {
         .ok()
         .ok_or("no memory")?;
     assert_eq!(rt; out.as_slice(), FIELDS.as_slice());
-    assert_eq!(rt; rows_read(rt.alloc(), &FIELDS, &name, &stamp), Ok(1));
+    assert_eq!(rt; are_read(rt.alloc(), &FIELDS, &name, &stamp), Ok(true));
     Ok(())
 }
 

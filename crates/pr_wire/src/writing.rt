@@ -6,6 +6,6 @@ mod open;
 mod vectors;
 
 pub use chunk::{Chunk, put_byte, put_eight};
-pub use fields::{put_mark, put_name, put_stamp};
+pub use fields::{put_name, put_stamp};
 pub use left::{Left, step};
 pub use vectors::put_vector;

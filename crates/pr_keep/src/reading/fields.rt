@@ -1,6 +1,6 @@
 // Bytes behind their count, writes and pairs.
 ghost use Rattle.pr_keep.specs.Reading.{counted_at, node_at, pair_at, write_at};
-ghost use Rattle.pr_wire.specs.Reading.{Gives, prev_at};
+ghost use Rattle.pr_wire.specs.Reading.{Gives};
 
 use pr_inval::{Bytes, WriteRec};
 use pr_stamps::{NODES, Seq, Stamp};
@@ -17,21 +17,6 @@ pub fn counted(cursor: &mut Cursor, alloc: Global) -> Result<Bytes, Fault>
     Ok(Seq::copied(alloc, bytes)?)
 }
 
-// A stamp, or none.
-#[tactic(auto, unfolding(pr_wire::specs::Reading::prev_at))]
-fn prev(cursor: &mut Cursor) -> Result<Option<Stamp>, Fault>
-    ensures { Gives (λ x. (x, cursor.new.rest.now)) result (prev_at cursor.old.rest.now) }
-{
-    match cursor.byte()? {
-        0 => Ok(None),
-        1 => {
-            let stamp = cursor.stamp()?;
-            Ok(Some(stamp))
-        }
-        _ => Err(Fault::Bad),
-    }
-}
-
 /// A write.
 #[tactic(auto, unfolding(crate::specs::Reading::write_at))]
 pub fn write(cursor: &mut Cursor) -> Result<WriteRec, Fault>
@@ -39,7 +24,7 @@ pub fn write(cursor: &mut Cursor) -> Result<WriteRec, Fault>
 {
     let name = cursor.name()?;
     let stamp = cursor.stamp()?;
-    let prev = prev(cursor)?;
+    let prev = cursor.prev()?;
     let gone = cursor.gone(Format::Two)?;
     Ok(WriteRec {
         name,

@@ -8,16 +8,14 @@ ghost use Rattle.pr_wire.specs.Spelling.{eight, four, list_text, name_text, spel
 ghost use Rattle.pr_wire.specs.declared.format.Format.TheVariants.{Two};
 ghost use Rattle.std.specs.Prelude.{◌≡◌, ◌<◌, ◌++◌, ◌∷◌, OnOk};
 
-use crate::spelling::fields::{
-    append_clocks, append_counted, append_eight, append_four, append_write,
-};
+use crate::spelling::fields::{append_clocks, append_counted, append_write};
 use crate::spelling::parts::{append_cause, append_found, append_reply, append_vectors};
 use pr_inval::{Bytes, Msg, WriteRec};
 use pr_names::Name;
 use pr_stamps::NoMemory;
 use pr_story::{Cause, Entry, Event, Found, Reply};
 use pr_vectors::Vector;
-use pr_wire::{append_name, encode};
+use pr_wire::{append_eight, append_four, append_name, encode};
 
 /// Adds an entry with its node, in time linear in what is added. After a refusal a beginning of it was added.
 #[tactic(auto, unfolding(crate::specs::Spelling::entry_text))]

@@ -1,31 +1,15 @@
-// Numbers, bytes behind their count, and writes.
+// Bytes behind their count, and writes.
 ghost use Rattle.pr_keep.specs.Entries.{IsAnyWrite, IsCounted, IsStampOrNone};
 ghost use Rattle.pr_keep.specs.Spelling.{counted_text};
 ghost use Rattle.pr_vectors.specs.Vector.{IsVector};
-ghost use Rattle.pr_wire.specs.Spelling.{eight, four, gone_text, prev_text, vector_text, write_text};
+ghost use Rattle.pr_wire.specs.Spelling.{gone_text, prev_text, vector_text, write_text};
 ghost use Rattle.pr_wire.specs.declared.format.Format.TheVariants.{Two};
 ghost use Rattle.std.specs.Prelude.{◌≡◌, ◌++◌, OnOk};
 
 use pr_inval::{Bytes, WriteRec};
 use pr_stamps::{NoMemory, Stamp};
 use pr_vectors::Vector;
-use pr_wire::{append_name, append_stamp, append_vector};
-
-/// A number in 4 bytes, the highest first.
-#[tactic(auto, unfolding(pr_wire::specs::Spelling::four))]
-pub fn append_four(number: u32, out: &mut Bytes) -> Result<(), NoMemory>
-    ensures { OnOk result (out.new ≡ out.old ++ four number) }
-{
-    out.extend(&number.to_be_bytes())
-}
-
-/// A number in 8 bytes, the highest first.
-#[tactic(auto, unfolding(pr_wire::specs::Spelling::eight))]
-pub fn append_eight(number: u64, out: &mut Bytes) -> Result<(), NoMemory>
-    ensures { OnOk result (out.new ≡ out.old ++ eight number) }
-{
-    out.extend(&number.to_be_bytes())
-}
+use pr_wire::{append_eight, append_name, append_stamp, append_vector};
 
 /// Bytes behind their count.
 #[tactic(auto, unfolding(crate::specs::Spelling::counted_text))]

@@ -6,12 +6,12 @@ ghost use Rattle.pr_stamps.specs.Point.{IsStamp};
 ghost use Rattle.pr_wire.specs.Spelling.{list_text, stamp_text, vector_text};
 ghost use Rattle.std.specs.Prelude.{◌≡◌, ◌∷◌, ◌++◌, OnOk};
 
-use crate::spelling::fields::{append_clocks, append_counted, append_eight};
+use crate::spelling::fields::{append_clocks, append_counted};
 use pr_inval::Bytes;
 use pr_stamps::{NoMemory, Stamp};
 use pr_story::{Cause, Found, Reply};
 use pr_vectors::Vector;
-use pr_wire::append_stamp;
+use pr_wire::{append_eight, append_stamp};
 
 /// Vectors behind their count.
 #[tactic(auto, unfolding(pr_wire::specs::Spelling::list_text))]

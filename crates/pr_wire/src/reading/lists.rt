@@ -138,9 +138,9 @@ impl<'a> Cursor<'a> {
         })
     }
 
-    /// The rows of a checkpoint with these bounds.
+    // The rows of a checkpoint with these bounds.
     #[tactic(auto, unfolding(crate::specs::Reading::list_at))]
-    pub fn rows(&mut self, alloc: Global, bounds: &Bounds) -> Result<Seq<Row>, Fault>
+    pub(crate) fn rows(&mut self, alloc: Global, bounds: &Bounds) -> Result<Seq<Row>, Fault>
         ensures { Gives (λ x. (x, self.new.rest.now)) result (list_at (row_at bounds.now.format bounds.now.floor.now bounds.now.to.now bounds.now.target.now) (last_before row_before) self.old.rest.now) }
     {
         let count = self.eight()?;

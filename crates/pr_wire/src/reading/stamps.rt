@@ -48,9 +48,9 @@ impl<'a> Cursor<'a> {
         }
     }
 
-    // A stamp, or none.
+    /// A stamp, or none.
     #[tactic(auto, unfolding(crate::specs::Reading::prev_at))]
-    fn prev(&mut self) -> Result<Option<Stamp>, Fault>
+    pub fn prev(&mut self) -> Result<Option<Stamp>, Fault>
         ensures { Gives (λ x. (x, self.new.rest.now)) result (prev_at self.old.rest.now) }
     {
         match self.byte()? {
@@ -88,9 +88,9 @@ impl<'a> Cursor<'a> {
         }
     }
 
-    // The byte 0 or 1.
+    /// No or yes, as the byte 0 or 1.
     #[tactic(auto, unfolding(crate::specs::Reading::gone_at))]
-    fn flag(&mut self) -> Result<bool, Fault>
+    pub fn flag(&mut self) -> Result<bool, Fault>
         ensures { Gives (λ x. (x, self.new.rest.now)) result (gone_at Format.Two self.old.rest.now) }
     {
         match self.byte()? {
