@@ -20,18 +20,14 @@ ghost use Rattle.pr_story.specs.Sessions.{HasGoneOn};
 use crate::answering::{answer, copy, found, replies};
 use crate::diary::Diary;
 use crate::ranges::{bytes_in_range, msg_in_range};
-use crate::rebuilding::rebuilt;
+use crate::rebuilding::{cut, drop_body, fresh, rebuilt};
 use crate::standing::precise;
 use crate::starting::{snapshot, start};
 use crate::taking::{gap, take};
 use crate::turning::{event_of, message, next_step, note};
 use crate::writing::{keep_write, next_write};
 use crate::{Answer, Done, Scan, Seen, Stores};
-use pr_bodies::Bodies;
-use pr_gaps::Gaps;
 use pr_inval::{Msg, NodeFault, Session, Step, Taken};
-use pr_log::Log;
-use pr_marks::Marks;
 use pr_names::Name;
 use pr_sets::NameSet;
 use pr_stamps::{MAX, NoMemory, Seq};
@@ -79,12 +75,7 @@ impl Node {
         requires apart { AreApart sets }
         ensures { IfOk result (λ node. means node ≡ record { id = id; sets = sets; journal = []; spent = false }) }
     {
-        let stores = Stores {
-            log: Log::new(alloc, id)?,
-            gaps: Gaps::new(alloc, id, sets)?,
-            bodies: Bodies::new(alloc),
-            marks: Marks::new(alloc),
-        };
+        let stores = fresh(alloc, id, sets)?;
         Ok(Node {
             alloc,
             id,
@@ -246,8 +237,7 @@ impl Node {
     {
         let time = self.diary.begin(0)?;
         let at = self.stores.log.vector();
-        self.stores.log.cut();
-        self.stores.marks.forget(&at);
+        cut(&mut self.stores);
         let event = Event::Cut { at };
         self.diary.finish(time, caller, event);
         Ok(at)
@@ -262,7 +252,7 @@ impl Node {
     {
         let time = self.diary.begin(0)?;
         let _ = name.bytes();
-        self.stores.bodies.drop_all(name);
+        drop_body(&mut self.stores, name);
         let event = Event::Dropped { name: *name };
         self.diary.finish(time, caller, event);
         Ok(())
