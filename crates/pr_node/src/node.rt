@@ -11,6 +11,7 @@ ghost use Rattle.pr_node.specs.Scanning.{IsScanOf};
 ghost use Rattle.pr_node.specs.Stored.{means};
 ghost use Rattle.pr_sets.specs.Sets.{AreApart};
 ghost use Rattle.pr_story.specs.History.{current_vector};
+ghost use Rattle.pr_story.specs.Told.{IsStart};
 ghost use Rattle.pr_story.specs.declared.event.Event.TheVariants.{Conflicts, Cut, Dropped};
 ghost use Rattle.pr_vectors.specs.Vector.{IsVector};
 ghost use Rattle.pr_inval.specs.Messages.{IsMessage};
@@ -265,6 +266,17 @@ impl Node {
         ensures { IsAnswerAt (means self.now) name.now (reply_of result) }
     {
         answer(&self.stores, name)
+    }
+
+    /// Where a stream of these names would start, if it were attached now, for a node that is not spent: per node the
+    /// greatest covered clock up to which each point is told for each of the node's sets that share a name with these.
+    /// It takes no memory, and for each set time linear in its intervals and in those of the names, and that of
+    /// `Gaps::last_precise` where they share one.
+    pub fn start(&self, names: &NameSet) -> Vector
+        requires { (means self.now).spent ≡ false }
+        ensures { IsStart (means self.now).sets (means self.now).id (means self.now).journal names.now result }
+    {
+        start(&self.stores.gaps, names)
     }
 
     /// A client's read, which is answered as by `look`, or Behind where the node's vector lacks some of `needs`, what
