@@ -23,7 +23,7 @@ pub fn ask<S: Source, K: Sink>(alloc: Global, label: &[u8], script: &mut S, out:
     ensures { AnswersAsk label.now (ports_of S.left S.faults K.text K.faults script.old out.old) (ports_of S.left S.faults K.text K.faults script.new out.new) result }
 {
     match read_script(alloc, script) {
-        Ok(script) => match number_of(script.decls.as_slice(), label) {
+        Ok(script) => match number_of(&script.decls, label) {
             Some(node) => write_asks(alloc, &script, node, out),
             None => Status::NoNode,
         },
