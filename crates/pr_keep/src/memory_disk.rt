@@ -9,7 +9,8 @@ use std::alloc::Global;
 use std::marker::Model;
 
 /// Keeps each piece that was written and what stood there before, so that what a stop may have left at any moment is
-/// told by what the disk holds. It takes memory twice for each byte written.
+/// told by what the disk holds. It holds each byte written twice, and a note of constant size for each write and each
+/// sync.
 #[derive(Drop)]
 pub struct MemoryDisk {
     alloc: Global,

@@ -11,6 +11,7 @@ ghost use Rattle.pr_node.specs.Scanning.{IsScanOf};
 ghost use Rattle.pr_node.specs.Stored.{means};
 ghost use Rattle.pr_sets.specs.Sets.{AreApart};
 ghost use Rattle.pr_story.specs.History.{current_vector};
+ghost use Rattle.pr_story.specs.Told.{IsStart};
 ghost use Rattle.pr_story.specs.declared.event.Event.TheVariants.{Conflicts, Cut, Dropped};
 ghost use Rattle.pr_vectors.specs.Vector.{IsVector};
 ghost use Rattle.pr_inval.specs.Messages.{IsMessage};
@@ -20,18 +21,14 @@ ghost use Rattle.pr_story.specs.Sessions.{HasGoneOn};
 use crate::answering::{answer, copy, found, replies};
 use crate::diary::Diary;
 use crate::ranges::{bytes_in_range, msg_in_range};
-use crate::rebuilding::rebuilt;
+use crate::rebuilding::{cut, drop_body, fresh, rebuilt};
 use crate::standing::precise;
 use crate::starting::{snapshot, start};
 use crate::taking::{gap, take};
 use crate::turning::{event_of, message, next_step, note};
 use crate::writing::{keep_write, next_write};
 use crate::{Answer, Done, Scan, Seen, Stores};
-use pr_bodies::Bodies;
-use pr_gaps::Gaps;
 use pr_inval::{Msg, NodeFault, Session, Step, Taken};
-use pr_log::Log;
-use pr_marks::Marks;
 use pr_names::Name;
 use pr_sets::NameSet;
 use pr_stamps::{MAX, NoMemory, Seq};
@@ -79,12 +76,7 @@ impl Node {
         requires apart { AreApart sets }
         ensures { IfOk result (λ node. means node ≡ record { id = id; sets = sets; journal = []; spent = false }) }
     {
-        let stores = Stores {
-            log: Log::new(alloc, id)?,
-            gaps: Gaps::new(alloc, id, sets)?,
-            bodies: Bodies::new(alloc),
-            marks: Marks::new(alloc),
-        };
+        let stores = fresh(alloc, id, sets)?;
         Ok(Node {
             alloc,
             id,
@@ -246,8 +238,7 @@ impl Node {
     {
         let time = self.diary.begin(0)?;
         let at = self.stores.log.vector();
-        self.stores.log.cut();
-        self.stores.marks.forget(&at);
+        cut(&mut self.stores);
         let event = Event::Cut { at };
         self.diary.finish(time, caller, event);
         Ok(at)
@@ -262,7 +253,7 @@ impl Node {
     {
         let time = self.diary.begin(0)?;
         let _ = name.bytes();
-        self.stores.bodies.drop_all(name);
+        drop_body(&mut self.stores, name);
         let event = Event::Dropped { name: *name };
         self.diary.finish(time, caller, event);
         Ok(())
@@ -275,6 +266,17 @@ impl Node {
         ensures { IsAnswerAt (means self.now) name.now (reply_of result) }
     {
         answer(&self.stores, name)
+    }
+
+    /// Where a stream of these names would start, if it were attached now, for a node that is not spent: per node the
+    /// greatest covered clock up to which each point is told for each of the node's sets that share a name with these.
+    /// It takes no memory, and for each set time linear in its intervals and in those of the names, and that of
+    /// `Gaps::last_precise` where they share one.
+    pub fn start(&self, names: &NameSet) -> Vector
+        requires { (means self.now).spent ≡ false }
+        ensures { IsStart (means self.now).sets (means self.now).id (means self.now).journal names.now result }
+    {
+        start(&self.stores.gaps, names)
     }
 
     /// A client's read, which is answered as by `look`, or Behind where the node's vector lacks some of `needs`, what

@@ -41,7 +41,7 @@ pub fn rebuilt(
 }
 
 // The stores of a node that has done nothing.
-fn fresh(alloc: Global, id: u32, sets: Seq<NameSet>) -> Result<Stores, NoMemory>
+pub fn fresh(alloc: Global, id: u32, sets: Seq<NameSet>) -> Result<Stores, NoMemory>
     requires id { id < 32 }
     requires apart { AreApart sets }
     ensures tied { IfOk result (λ stores. IsTied id [] stores) }
@@ -77,7 +77,7 @@ fn tell(alloc: Global, stores: &mut Stores, event: &Event) -> Result<(), NoMemor
 }
 
 // The log is cut at the node's vector, and the marks that it covers are forgotten.
-fn cut(stores: &mut Stores)
+pub fn cut(stores: &mut Stores)
     ensures tied { (n : ℕ) (j : List Entry) (time caller : ℕ) (at : List ℕ) → IsTied n j stores.old → at ≡ current_vector j → IsTied n (record { time = time; caller = caller; event = Cut at } ∷ j) stores.new }
     ensures sets { stores.new.gaps.sets ≡ stores.old.gaps.sets }
 {
@@ -86,7 +86,8 @@ fn cut(stores: &mut Stores)
     stores.marks.forget(&at);
 }
 
-fn drop_body(stores: &mut Stores, name: &Name)
+// The bodies of the name are dropped.
+pub fn drop_body(stores: &mut Stores, name: &Name)
     ensures tied { (n : ℕ) (j : List Entry) (time caller : ℕ) → IsTied n j stores.old → IsTied n (record { time = time; caller = caller; event = Dropped name.now } ∷ j) stores.new }
     ensures sets { stores.new.gaps.sets ≡ stores.old.gaps.sets }
 {

@@ -1,13 +1,12 @@
 -- The asks of a node after a run.
-use Rattle.std.proofs.Common.{◌≡◌, ℕ, List, [], Ok, Err, Option, refl, subst, reverse, take}
-use Rattle.pr_names.specs.Span.{Span}
+use Rattle.std.proofs.Common.{◌≡◌, ℕ, List, [], Ok, Err, Option, refl, subst, take}
+use Rattle.pr_node.specs.Stored.{NodeMeaning}
 use Rattle.pr_script.specs.declared.decl.Decl.{Decl}
 use Rattle.pr_script.specs.declared.script.Script.{Script}
 use Rattle.pr_sim.specs.Making.{declared_of}
 use Rattle.pr_sim.specs.Running.{Tells}
 use Rattle.pr_sim.specs.declared.engine.Engine.{Engine}
 use Rattle.pr_sim.proofs.Story.{running_tells}
-use Rattle.pr_story.specs.declared.entry.Entry.{Entry}
 use Rattle.pr_story.specs.History.{NodeEntry, journal}
 use Rattle.pr_story.specs.Scripts.{JobAfterJob}
 use Rattle.pr_text.specs.Numbers.{counts_of}
@@ -15,6 +14,7 @@ use Rattle.pr_text.specs.Transcripts.{plan_of}
 use Rattle.pr_text.proofs.Runs.{runs_give}
 use Rattle.pr_top.specs.Asked.{HasAsked, HasAsks, IsAsksText}
 use Rattle.pr_top.specs.Progress.{HasCome, Writes}
+use Rattle.pr_top.specs.Served.{node_after}
 use Rattle.pr_top.specs.declared.status.Status.TheVariants as status
 use Rattle.pr_top.specs.declared.stepping.Halt.{Halt}
 use Rattle.pr_top.specs.declared.stepping.Halt.TheVariants as halts
@@ -29,17 +29,16 @@ pub tells_run : (s : Script) (h : List NodeEntry) (e : Engine) (unmet : Option �
 tells_run s h e unmet k = running_tells (declared_of s.decls.list) k.attached h e k.running
 
 -- the asks are those of the node as the history left it
-pub asked_after : (s : Script) (h : List NodeEntry) (e : Engine) (unmet : Option ℕ) (n : ℕ) (ds : List Decl) (sets : List (List Span)) (es : List Entry) (text : List ℕ) → HasCome JobAfterJob s [] h e unmet
-    → ds ≡ s.decls.list → sets ≡ (plan_of ds).sets n → reverse es ≡ journal h n → IsAsksText ds sets n (reverse es) text → HasAsks s n (Ok text)
-asked_after s h e unmet n ds sets es text k same own past asked =
+pub asked_after : (s : Script) (h : List NodeEntry) (e : Engine) (unmet : Option ℕ) (n : ℕ) (ds : List Decl) (m : NodeMeaning) (text : List ℕ) → HasCome JobAfterJob s [] h e unmet
+    → ds ≡ s.decls.list → m ≡ node_after (plan_of s.decls.list) h n → IsAsksText ds m.sets n m.journal text → HasAsks s n (Ok text)
+asked_after s h e unmet n ds m text k same left asked =
     let told = tells_run s h e unmet k in
-    let all : IsAsksText ds ((plan_of ds).sets n) n (journal h n) text =
-    subst (λ (x : List (List Span)). IsAsksText ds x n (journal h n) text) own (subst (λ (j : List Entry). IsAsksText ds sets n j text) past asked) in (
+    let all : IsAsksText ds ((plan_of s.decls.list).sets n) n (journal h n) text = subst (λ (x : NodeMeaning). IsAsksText ds x.sets n x.journal text) left asked in (
       h,
       record { valid = told.told.valid; declared = told.speaks },
       runs_give JobAfterJob s h unmet (ended JobAfterJob s h e unmet k),
       begun JobAfterJob s [] h e unmet k,
-      subst (λ (xs : List Decl). IsAsksText xs ((plan_of xs).sets n) n (journal h n) text) same all,
+      subst (λ (xs : List Decl). IsAsksText xs ((plan_of s.decls.list).sets n) n (journal h n) text) same all,
     )
 
 -- ---- what is written

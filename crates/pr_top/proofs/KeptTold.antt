@@ -65,22 +65,16 @@ module _ {D : Type 0} (state : D → State) (images : D → List ℕ → Type 0)
   nothing_halted : (s : Script) (keep : Keep D) (halt : Halt) → IsHalted [] halt → KeepsOn state images moment images_since keep keep [] 0 0 → HasHalted state images moment images_since keep keep s [] halt
   nothing_halted s keep halt cause none = record { is = (record { valid = tt; declared = tt }, λ all. tt); begun = no_run JobAfterJob all_sound s; cause = cause; kept = inl none }
 
-  pub heads_broke : (X : Type 0) (failed : Type 0) (s : Script) (a b : Option (List ℕ)) (halt : Halt) (keep : Keep D) → KeepsOn state images moment images_since keep keep [] 0 0
-      → Writes {X = X} (heads_text s.decls.list) failed a b (Err halt) → HasKeptTold state images moment images_since keep keep s failed a b (Err (breaks.Halted halt))
-  heads_broke X failed s a b halts.NoMemory keep none (n, p) =
+  pub heads_broke : (failed : Type 0) (s : Script) (a b : Option (List ℕ)) (halt : Halt) (keep : Keep D) → KeepsOn state images moment images_since keep keep [] 0 0
+      → Writes {X = ℕ} (heads_text s.decls.list) failed a b (Err halt) → HasKeptTold state images moment images_since keep keep s failed a b (Err (breaks.Halted halt))
+  heads_broke failed s a b halts.NoMemory keep none (n, p) =
       let m = front_of n (heads_text s.decls.list) [] in
       ([], nothing_halted s keep halts.NoMemory tt none, (m.0, subst (λ (t : List ℕ). Appends a b t) m.1 p))
-  heads_broke X failed s a b halts.WriteFault keep none (bad, (n, p)) =
+  heads_broke failed s a b halts.WriteFault keep none (bad, (n, p)) =
       let m = front_of n (heads_text s.decls.list) [] in
       ([], nothing_halted s keep halts.WriteFault tt none, (take n (heads_text s.decls.list), (bad, (m.0, inl m.1)), p))
-  heads_broke X failed s a b (halts.Worn at) keep none p = absurd p
-  heads_broke X failed s a b (halts.Lied stream number sent got) keep none p = absurd p
-
-  pub heads_only : (failed : Type 0) (s : Script) (a b : Option (List ℕ)) (keep : Keep D) → KeepsOn state images moment images_since keep keep [] 0 0
-      → Appends a b (heads_text s.decls.list) → HasKeptTold state images moment images_since keep keep s failed a b (Err (breaks.Halted halts.NoMemory))
-  heads_only failed s a b keep none p =
-      let text : List ℕ = heads_text s.decls.list in
-      heads_broke ℕ failed s a b halts.NoMemory keep none (length text, subst (λ (t : List ℕ). Appends a b t) (sym (take_all (length text) text (omega arith))) p)
+  heads_broke failed s a b (halts.Worn at) keep none p = absurd p
+  heads_broke failed s a b (halts.Lied stream number sent got) keep none p = absurd p
 
   -- ---- the commands
 

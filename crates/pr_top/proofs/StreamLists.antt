@@ -1,9 +1,8 @@
--- The streams that end at a node, and how many nodes there are.
+-- The streams that end at a node, and how many declarations there are.
 use Rattle.std.proofs.Common.{◌≡◌, ℕ, ◌+◌, ◌<◌, ◌≤◌, ◌++◌, List, [], ◌∷◌, Bool, true, false, cond, refl, sym, ◌∙◌, ap, subst, append_assoc, drop, get_or, length, arith}
-use Rattle.std.specs.Prelude.{◌≢◌, ◌==◌, count_by, filter}
+use Rattle.std.specs.Prelude.{◌≢◌, ◌==◌, filter}
 use Rattle.std.proofs.lemmas.Bool.Decides.{nat_tests}
 use Rattle.std.proofs.lemmas.List.{append-nil, drop-drop, get_or-drop}
-use Rattle.std.proofs.lemmas.List.Sums.{length-filter}
 use Rattle.pr_script.specs.declared.decl.Decl.{Decl}
 use Rattle.pr_script.specs.declared.decl.Decl.TheVariants as decls
 use Rattle.pr_script.specs.declared.kind.Kind.TheVariants as kinds
@@ -11,7 +10,6 @@ use Rattle.pr_script.specs.Good.{AreGoodDecls}
 use Rattle.pr_script.specs.Labels.{is_kind}
 use Rattle.pr_sim.proofs.Makings.{count_is}
 use Rattle.pr_story.specs.History.{Stream}
-use Rattle.pr_text.specs.Numbers.{nodes_of}
 use Rattle.pr_text.specs.Transcripts.{no_decl, plan_of, stream_of}
 use Rattle.pr_top.specs.Asked.{streams_to}
 use Rattle.pr_top.proofs.KindLists.{ahead, left_first, left_of, left_same, none_left}
@@ -100,9 +98,6 @@ module _ (ds : List Decl) (n : ℕ) where
               }
 
 -- ---- how many are declared
-
-pub nodes_counted : (ds : List Decl) → count_by (is_kind kinds.Node) ds ≡ nodes_of ds
-nodes_counted ds = sym (length-filter (is_kind kinds.Node) ds) ∙ sym (count_is kinds.Node ds)
 
 of_kinds : (ds : List Decl) → length ds ≡ length (filter (is_kind kinds.Node) ds) + length (filter (is_kind kinds.Client) ds) + length (filter (is_kind kinds.Stream) ds)
 of_kinds [] = refl

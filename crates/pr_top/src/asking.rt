@@ -8,7 +8,8 @@ ghost use Rattle.std.specs.Prelude.{◌<◌};
 
 use crate::Status;
 use crate::asker::Asker;
-use crate::nodes::{number_of, sets_at};
+use crate::left::node_of;
+use crate::nodes::number_of;
 use crate::reading::{ReadError, read_script};
 use crate::running::write;
 use crate::silent::run_silently;
@@ -22,7 +23,7 @@ pub fn ask<S: Source, K: Sink>(alloc: Global, label: &[u8], script: &mut S, out:
     ensures { AnswersAsk label.now (ports_of S.left S.faults K.text K.faults script.old out.old) (ports_of S.left S.faults K.text K.faults script.new out.new) result }
 {
     match read_script(alloc, script) {
-        Ok(script) => match number_of(script.decls.as_slice(), label) {
+        Ok(script) => match number_of(&script.decls, label) {
             Some(node) => write_asks(alloc, &script, node, out),
             None => Status::NoNode,
         },
@@ -50,20 +51,16 @@ fn write_asks<K: Sink>(alloc: Global, script: &Script, node: u32, out: &mut K) -
 }
 
 // The asks of the script's node after its run.
-fn asks(alloc: Global, script: &Script, node: u32) -> Result<Bytes, Halt>
+fn asks(alloc: Global, script: &Script, number: u32) -> Result<Bytes, Halt>
     requires good { IsGood script.now }
-    requires known { node < nodes_of script.now.decls.list }
-    ensures { HasAsks script.now node result }
+    requires known { number < nodes_of script.now.decls.list }
+    ensures { HasAsks script.now number result }
 {
     let run = run_silently(alloc, script)?;
-    let decls = script.decls.as_slice();
-    let Some(journal) = run.engine.journal(node) else {
-        unreachable!()
-    };
+    let node = node_of(run, number);
     let asker = Asker {
-        node,
-        sets: sets_at(decls, node),
-        entries: journal.entries(),
+        number,
+        node: &node,
     };
-    Ok(asker.asks(alloc, decls)?)
+    Ok(asker.asks(alloc, script.decls.as_slice())?)
 }

@@ -7,27 +7,24 @@ ghost use Rattle.pr_sim.specs.Making.{declared_of};
 ghost use Rattle.pr_sim.specs.Running.{Tells};
 ghost use Rattle.pr_story.specs.Counts.{Declared};
 ghost use Rattle.pr_story.specs.History.{NodeEntry};
-ghost use Rattle.pr_text.specs.Heads.{heads_text};
 ghost use Rattle.pr_story.specs.Scripts.{JobAfterJob};
 ghost use Rattle.pr_top.specs.Downs.{TellsTrueDowns};
 ghost use Rattle.pr_top.specs.Kept.{HasRunKept, placed};
 ghost use Rattle.pr_top.specs.KeptProgress.{HasEndedSo, HasKeptAll, HasKeptFrom, HasKeptTold, EndsHalted, IsUnmade, break_of};
-ghost use Rattle.pr_top.specs.Progress.{HasCome, Writes};
+ghost use Rattle.pr_top.specs.Progress.{HasCome};
 ghost use Rattle.pr_top.specs.Runs.{all_sound};
 ghost use Rattle.pr_top.specs.declared.keeping.Break.TheVariants as breaks;
-ghost use Rattle.pr_top.specs.declared.stepping.Halt.TheVariants as halts;
 ghost use Rattle.std.specs.Prelude.{◌≡◌, ◌≤◌, [], List, length, reverse, take};
 
 use crate::Status;
-use crate::running::{Expected, end, tell_end, tell_from, tell_halt, write};
+use crate::running::{Expected, begin, end, tell_end, tell_from, tell_halt};
 use crate::stepping::{Halt, Run};
 use crate::telling::tell;
 use pr_keep::{Disk, Keep, KeepFault, KeepRefused};
 use pr_ports::Sink;
 use pr_script::{Decls, Script};
 use pr_sim::Engine;
-use pr_stamps::{NoMemory, Seq};
-use pr_text::heads;
+use pr_stamps::Seq;
 use std::alloc::Global;
 
 /// How a kept run ended.
@@ -53,14 +50,6 @@ impl From<Halt> for Break {
 
     fn from(halt: Halt) -> Break {
         Break::Halted(halt)
-    }
-}
-
-impl From<NoMemory> for Break {
-    ghost from_gives = { λ _ result. result ≡ breaks.Halted halts.NoMemory };
-
-    fn from(_refused: NoMemory) -> Break {
-        Break::Halted(Halt::NoMemory)
     }
 }
 
@@ -151,24 +140,9 @@ fn transcript<D: Disk, K: Sink>(
     ensures told { HasKeptTold D.state D.images D.moment D.images_since keep.old keep.new script.now (HasRisen (K.faults out.old) (K.faults out.new)) (K.text out.old) (K.text out.new) result }
     ensures rises { K.faults out.old ≤ K.faults out.new }
 {
-    tell_heads(alloc, &script.decls, out)?;
-    let engine = Engine::new(alloc, &script.decls)?;
-    let mut run = Run {
-        engine,
-        unmet: None,
-    };
+    let mut run = begin(alloc, script, out)?;
     commands(alloc, script, &mut run, keep, out)?;
     Ok(end(alloc, script, &run, out)?)
-}
-
-// Writes the head lines.
-fn tell_heads<K: Sink>(alloc: Global, decls: &Decls, out: &mut K) -> Result<(), Halt>
-    ensures told { Writes (heads_text decls.now.list) (HasRisen (K.faults out.old) (K.faults out.new)) (K.text out.old) (K.text out.new) result }
-    ensures rises { K.faults out.old ≤ K.faults out.new }
-{
-    let mut text = Seq::new(alloc);
-    heads(alloc, decls, &mut text)?;
-    write(out, text.as_slice())
 }
 
 // Runs all commands. Each one's entries are kept, and then their lines written, before the next runs.

@@ -98,7 +98,7 @@ fn tell_held<K: Sink>(
     let (mut keep, entries) = reopened(alloc, disk)?;
     tell_placed(alloc, &script.decls, &entries.as_slice()[told..], out)?;
     let held = entries.len();
-    let nodes = node_count(decls);
+    let nodes = node_count(&script.decls);
     let journals = journals_of(alloc, nodes, entries)?;
     tell_states(alloc, &script.decls, journals, &mut keep, out)?;
     close(alloc, decls.len() + held + nodes as usize, unmet, out)

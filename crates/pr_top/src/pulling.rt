@@ -39,7 +39,7 @@ pub fn pull<S: Source, K: Sink>(alloc: Global, label: &[u8], source: &mut S, out
     ensures { AnswersPull label.now (ports_of S.left S.faults K.text K.faults source.old out.old) (ports_of S.left S.faults K.text K.faults source.new out.new) result }
 {
     match read_front(alloc, source) {
-        Ok(front) => match number_of(front.script.decls.as_slice(), label) {
+        Ok(front) => match number_of(&front.script.decls, label) {
             Some(node) => pull_front(alloc, &front, node, source, out),
             None => tell(out, Status::NoNode, b"error no node\n"),
         },
@@ -116,7 +116,7 @@ fn take_in<S: Source>(
     let decls = front.script.decls.as_slice();
     match streams_to(alloc, decls, number) {
         Ok(streams) => {
-            let nodes = node_count(decls);
+            let nodes = node_count(&front.script.decls);
             let ahead = front.ahead.as_slice();
             pull_rest(alloc, node, nodes, streams.as_slice(), ahead, source)
         }

@@ -22,7 +22,7 @@ pub fn serve<S: Source, K: Sink>(alloc: Global, label: &[u8], source: &mut S, ou
     ensures { AnswersServe label.now (ports_of S.left S.faults K.text K.faults source.old out.old) (ports_of S.left S.faults K.text K.faults source.new out.new) result }
 {
     match read_front(alloc, source) {
-        Ok(front) => match number_of(front.script.decls.as_slice(), label) {
+        Ok(front) => match number_of(&front.script.decls, label) {
             Some(node) => answer_asks(alloc, &front, node, source, out),
             None => Status::NoNode,
         },

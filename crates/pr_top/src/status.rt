@@ -4,7 +4,8 @@ ghost use Rattle.std.specs.Prelude.{◌≡◌};
 
 use pr_script::Bytes;
 
-/// How the program ended. Each has an exit status and a last line (docs/TRANSCRIPT.md).
+/// How the program ended. Each has an exit status, and each but `WriteFault` a last line (docs/TRANSCRIPT.md); `ask` and
+/// `serve` write one for `Usage` alone.
 #[derive(Drop)]
 pub enum Status {
     /// All was done, and the whole transcript written; or a text is a transcript.
@@ -20,8 +21,8 @@ pub enum Status {
     ReadFault,
     /// The sink failed.
     WriteFault,
-    /// The script has more than 4,194,304 bytes, or goes on behind its 100,000th line; or the text to be judged has more
-    /// than 67,108,864 bytes.
+    /// The script has more than 4,194,304 bytes, or goes on behind its 100,000th line; or the text to be judged, or what
+    /// `serve` or `pull` reads behind the script, has more than 67,108,864 bytes.
     TooLarge,
     /// A wire gave other bytes than those that were put for this message of the stream.
     Lied {
@@ -36,7 +37,8 @@ pub enum Status {
     Unmet {
         line: u64,
     },
-    /// A time or a clock would be past the greatest, which needs as many events.
+    /// A time or a clock would be past the greatest, which needs as many events; for `pull` one message of the greatest
+    /// time is enough.
     Worn {
         at: u64,
     },

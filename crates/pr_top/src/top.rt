@@ -41,11 +41,11 @@ const MOST_STOP: u64 = 1_000_000_000;
 /// line as it comes. Reading takes time linear in the script's bytes and keeps its commands; the run takes the time of
 /// the nodes' calls and keeps their journals. `run` does the same, each job of a phase in a thread of its own that
 /// calls the gate before each of its lines, each flow over a connection of its own. `kept` does as `sim` does, and
-/// keeps each entry on a disk in memory before its line is written, which takes three times the bytes of the entries;
-/// where that disk stops it tells what the disk held (docs/KEPT.md). `gen` reads nothing, runs the generated script of
-/// its seed and size, and writes the summary of the run. `check` reads a text of at most 67,108,864 bytes as it comes,
-/// and writes whether it is a transcript, once it was read to its end; it takes the time that the events took, and
-/// keeps the nodes' journals. `ask` reads and runs a script, writes the asks of a node for the streams that end at it
+/// keeps each entry on a disk in memory before its line is written, which holds each byte written twice; where that
+/// disk stops it tells what the disk held (docs/KEPT.md). `gen` reads nothing, runs the generated script of its seed
+/// and size, and writes the summary of the run. `check` reads a text of at most 67,108,864 bytes as it comes, and
+/// writes whether it is a transcript, once it was read to its end; it takes the time that the events took, and keeps
+/// the nodes' journals. `ask` reads and runs a script, writes the asks of a node for the streams that end at it
 /// (docs/WIRE.md), and no line. `serve` and `pull` read a script up to the first byte 0, and run it; then `serve`
 /// answers the asks behind it at a node, and `pull` writes the transcript, gives the node the messages behind the
 /// script, and writes the lines of what it took in.

@@ -1,6 +1,6 @@
 // Small cases at B.
 
-use crate::tests::building::{A, B, ZERO, is_at, name, node};
+use crate::tests::building::{A, B, ZERO, is_at, name, node, set};
 use crate::tests::call::Forgery;
 use crate::tests::forging::forged;
 use crate::{Answer, Node};
@@ -95,5 +95,27 @@ fn a_point_of_a_set_is_untold(rt: HostRuntime) -> Result<(), Fail> {
     assert!(rt; is_accepted(rt.alloc(), &mut node, 1, 1, b"a/x"));
     assert!(rt; is_untold(&node, b"a/x", 1));
     assert!(rt; is_never(&node, b"b"));
+    Ok(())
+}
+
+// Whether a stream of the names of a/* would start at this clock of A.
+fn starts_at(alloc: Global, node: &Node, clock: u64) -> bool {
+    match set(alloc, b"a/*") {
+        Some(names) => !node.is_spent() && node.start(&names).at(A) == clock,
+        None => false,
+    }
+}
+
+// Whether a node that was told of 2@A for other names alone starts at 1.
+fn is_behind_its_vector(alloc: Global) -> Option<bool> {
+    let mut node = node(alloc, B, b"a/*", b"~")?;
+    let told = is_accepted(alloc, &mut node, 1, 1, b"b")
+        && is_accepted(alloc, &mut node, 2, 2, b"a/x");
+    Some(told && node.vector().at(A) == 2 && starts_at(alloc, &node, 1))
+}
+
+#[test]
+fn a_start_is_behind_the_vector(rt: HostRuntime) -> Result<(), Fail> {
+    assert!(rt; is_behind_its_vector(rt.alloc()).unwrap_or(false));
     Ok(())
 }

@@ -6,7 +6,7 @@ use Rattle.pr_script.specs.declared.decl.Decl.{Decl}
 use Rattle.pr_story.specs.declared.entry.Entry.{Entry}
 use Rattle.pr_story.specs.History.{NodeEntry}
 use Rattle.pr_text.specs.Endings.{ok_line}
-use Rattle.pr_text.specs.Numbers.{counts_of, nodes_of}
+use Rattle.pr_text.specs.Numbers.{counts_of}
 use Rattle.pr_top.specs.Kept.{placed}
 use Rattle.pr_top.specs.Progress.{Writes, entry_lines}
 use Rattle.pr_top.specs.Resuming.{AreJournals, TellsHeld, TellsStates}
@@ -52,7 +52,7 @@ journals_of-requires g c =
     let ds = c.args.script.now.decls.list in
     let held = c.requires.held in
     let es = (c.in_ok-keep.ensures (placed (reverse held.0)) held.3).0 in
-    let nodes = c.node_count-nodes.ensures ∙ ap (λ (xs : List Decl). nodes_of xs) c.as_slice-decls.ensures in
+    let nodes = c.node_count-nodes.ensures in
     subst (λ (ps : List (ℕ × Entry)). AllByRecursion (λ (e : ℕ × Entry). e.0 < c.node_count-nodes.result) ps) (sym es)
     (subst (λ (n : ℕ). AllByRecursion (λ (e : ℕ × Entry). e.0 < n) (placed (reverse held.0))) (sym nodes) (placed_declared (counts_of ds) held.0 held.2.is.declared))
 
@@ -86,7 +86,7 @@ returns-in_err-tell_states-clause-told g c = λ h told can stands within is.
     let es = c.as_slice.ensures ∙ opened.0 in
     let rest = unplaced_rest c.as_slice.result.now (reverse h) (c.args.lines - length c.as_slice-decls.result.now) told es (omega (arith, heads, is)) in
     let first = went_as (Unit {0}) early a b _ (entry_lines ds (drop told (reverse h))) c.tell_placed.result tt (ap (λ (xs : List NodeEntry). entry_lines ds xs) rest) c.in_ok-tell_placed.was c.tell_placed.ensures.told in
-    let nodes = c.node_count-nodes.ensures ∙ ap (λ (xs : List Decl). nodes_of xs) c.as_slice-decls.ensures in
+    let nodes = c.node_count-nodes.ensures in
     let are : AreJournals ds h c.in_ok-journals.journals.items = record { many = c.in_ok-journals.ensures.many ∙ nodes; each = c.in_ok-journals.ensures.each h opened.0 } in
     let p = err_from_is_err_and c.from_residual-in_err-tell_states.result c.from_residual-in_err-tell_states.ensures.1 in
     let was = c.in_err-tell_states.was in
@@ -112,7 +112,7 @@ returns-clause-told g c = λ h told can stands within is.
     let es = c.as_slice.ensures ∙ opened.0 in
     let rest = unplaced_rest c.as_slice.result.now (reverse h) (c.args.lines - length c.as_slice-decls.result.now) told es (omega (arith, heads, is)) in
     let first = went_as (Unit {0}) early a b _ (entry_lines ds (drop told (reverse h))) c.tell_placed.result tt (ap (λ (xs : List NodeEntry). entry_lines ds xs) rest) c.in_ok-tell_placed.was c.tell_placed.ensures.told in
-    let nodes = c.node_count-nodes.ensures ∙ ap (λ (xs : List Decl). nodes_of xs) c.as_slice-decls.ensures in
+    let nodes = c.node_count-nodes.ensures in
     let are : AreJournals ds h c.in_ok-journals.journals.items = record { many = c.in_ok-journals.ensures.many ∙ nodes; each = c.in_ok-journals.ensures.each h opened.0 } in
     let told_states = subst (λ (r : Result (Unit {0}) Halt). TellsStates ds h c.tell_states.new.keep failed b d r) c.in_ok-tell_states.was (c.tell_states.ensures.told h can are opened.1) in
     let held = c.len-held.ensures ∙ ap (λ (ps : List (ℕ × Entry)). length ps) opened.0 ∙ placed_long h in

@@ -1,7 +1,4 @@
-use Rattle.std.proofs.Common.{◌∙◌, List, ap, inr, sym}
-use Rattle.pr_script.specs.Labels.{number_among}
-use Rattle.pr_script.specs.declared.decl.Decl.{Decl}
-use Rattle.pr_script.specs.declared.kind.Kind.TheVariants as kinds
+use Rattle.std.proofs.Common.{inr, sym}
 use Rattle.pr_top.specs.Answers.{ports_of}
 use Rattle.pr_top.specs.declared.status.Status.TheVariants as status
 use Rattle.pr_top.proofs.PulledRuns.{ends_from}
@@ -14,7 +11,7 @@ returns-in-Some g c = inr (record {
   node = c.in-Some.node;
   behind = _;
   front = c.in-Ok.ensures.so.0;
-  node_is = ap (λ (ds : List Decl). number_among kinds.Node ds c.args.label.now) (sym c.as_slice.ensures) ∙ sym c.in-Some.ensures.number;
+  node_is = sym c.in-Some.ensures.number;
   pulls = ends_from c.pull_front.result c.in-Ok.front.script c.in-Some.node _ (g.S.Source.faults c.args.source.now) (g.S.Source.faults c.read_front.new.source) _ _ _ _ _ c.in-Ok.ensures.rises c.pull_front.ensures;
 })
 
@@ -22,5 +19,5 @@ pub returns-in-Ok : goal.returns-in-Ok
 returns-in-Ok g c =
     refused_line c.args.label.now (ports_of g.S.Source.left g.S.Source.faults g.K.Sink.text g.K.Sink.faults c.args.source.now c.args.out.now) (ports_of g.S.Source.left g.S.Source.faults g.K.Sink.text g.K.Sink.faults c.read_front.new.source c.tell.new.out) c.tell.result status.NoNode
     c.tell.ensures.status
-    (c.in-Ok.front.script, _, c.in-Ok.ensures.so.0, ap (λ (ds : List Decl). number_among kinds.Node ds c.args.label.now) (sym c.as_slice.ensures) ∙ sym c.in-None.ensures.number)
+    (c.in-Ok.front.script, _, c.in-Ok.ensures.so.0, sym c.in-None.ensures.number)
     c.tell.ensures.line
