@@ -6,6 +6,7 @@ use Rattle.std.proofs.lemmas.List.Elements.{All-contains, All-weaker}
 use Rattle.pr_cell.specs.Passes.{HoldsAll, held}
 use Rattle.pr_flow.specs.declared.stop.Stop.{Stop}
 use Rattle.pr_flow.specs.declared.stop.Stop.TheVariants as stops
+use Rattle.pr_flow.proofs.Downs.{downs_sound}
 use Rattle.pr_inval.specs.Standing.{Remembered}
 use Rattle.pr_merge.specs.Holding.{AreAllHere, AreSessions, HeldState}
 use Rattle.pr_node.specs.Stored.{Stored}
@@ -31,13 +32,13 @@ use Rattle.pr_crew.specs.Making.{IsCellOf, NodeCell, NodePass}
 use Rattle.pr_crew.specs.Phases.{AreDistinct, CanRunJob, CanRunPhase, IsOut, IsPlanned, LeavesPhase, PhaseEnds, RepresentsNodes, SameAttached}
 use Rattle.pr_crew.specs.Rooms.{HasAppended}
 use Rattle.pr_crew.specs.Sites.{CanClose, IsBeside, IsClosed, IsHere, IsOpened, IsSite}
-use Rattle.pr_crew.specs.Sound.{AddsSound, HaveSoundEnds}
+use Rattle.pr_crew.specs.Sound.{AddsDownsOf, AddsSound, HaveEndsOf}
 use Rattle.pr_crew.specs.Starting.{CanStart, IsLent}
 use Rattle.pr_crew.specs.Asking.{IsShort}
 use Rattle.pr_crew.specs.Works.{AreWorks, CanPlan, IsWork}
 use Rattle.pr_crew.proofs.Apart.{apart_at}
 use Rattle.pr_crew.proofs.Carried.{carried}
-use Rattle.pr_crew.proofs.Sounds.{sound_new}
+use Rattle.pr_crew.proofs.Sounds.{downs_new}
 use Rattle.pr_crew.proofs.Entries.{same_made}
 use Rattle.pr_crew.proofs.Outcome.{assembled, can_append, have_made, jobs}
 use Rattle.pr_crew.proofs.Represented.{at_contains, attached_same, represented}
@@ -245,18 +246,22 @@ module _ (records : Declared → List NodeEntry → Type 0) (d : Declared) (h : 
     carries final (Ok (stops.Lied stream number sent got)) fine same more answer before after closed = tt
     carries final (Err x) fine same more answer before after closed = tt
 
-    -- and where the wires were sound, no entry says that one failed or ended
-    pub adds_sound : (final : Declared → List NodeEntry → Type 0) (fine : HeldState Stored) → fine ≡ then → ((g : List NodeEntry) → later d g → final d g) → HaveSoundEnds r.jobs → AddsSound final d h fine
-    adds_sound final fine same more sound = (
+    -- and entries say that a wire failed or ended for the streams alone whose flows did not end as over sound ones
+    pub adds_downs : (final : Declared → List NodeEntry → Type 0) (fine : HeldState Stored) → fine ≡ then → ((g : List NodeEntry) → later d g → final d g) → (P : ℕ → Type 0) → HaveEndsOf P r.jobs → AddsDownsOf P final d h fine
+    adds_downs final fine same more P ends = (
       new_of,
       subst (λ (z : HeldState Stored). RepresentsNodes final d (new_of ++ h) z) (sym same) (move_records later final d (new_of ++ h) then (more (new_of ++ h)) all_represented),
-      sound_new h inside (length s.cells.items) d.plan ws now last stop r (jobs records d h inside ws (length s.cells.items) was now last stop o.planned o.beside r)
-          (have_made records d h inside ws (length s.cells.items) was now last stop o.planned o.beside r) a.0 (assembled records d h inside ws (length s.cells.items) was now last stop o.planned o.beside r a.0 a.1) sound,
+      downs_new h inside (length s.cells.items) d.plan ws now last stop r (jobs records d h inside ws (length s.cells.items) was now last stop o.planned o.beside r)
+          (have_made records d h inside ws (length s.cells.items) was now last stop o.planned o.beside r) a.0 (assembled records d h inside ws (length s.cells.items) was now last stop o.planned o.beside r a.0 a.1) P ends,
     )
 
 -- nothing was added
-pub none_added : (final : Declared → List NodeEntry → Type 0) (d : Declared) (h : List NodeEntry) (s : HeldState Stored) → RepresentsNodes final d h s → AddsSound final d h s
-none_added final d h s r = ([], r, tt)
+pub none_added : (P : ℕ → Type 0) (final : Declared → List NodeEntry → Type 0) (d : Declared) (h : List NodeEntry) (s : HeldState Stored) → RepresentsNodes final d h s → AddsDownsOf P final d h s
+none_added P final d h s r = ([], r, tt)
+
+-- where there is no such stream, what was added is sound
+pub sound_of : (P : ℕ → Type 0) (final : Declared → List NodeEntry → Type 0) (d : Declared) (h : List NodeEntry) (s : HeldState Stored) → ((x : ℕ) → P x → ⊥) → AddsDownsOf P final d h s → AddsSound final d h s
+sound_of P final d h s none (new, represents, downs) = (new, represents, downs_sound P none new downs)
 
 -- nothing is said of a phase that did not go its way
 pub none_carried : (final : Declared → List NodeEntry → Type 0) (d : Declared) (h : List NodeEntry) (inside : List Numbered) (s : HeldState Stored) (before now : Option (List (List ℕ))) (result : Result Stop NoMemory) (x : NoMemory) → result ≡ Err x

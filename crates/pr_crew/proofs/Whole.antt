@@ -29,7 +29,7 @@ use Rattle.pr_crew.specs.Crossing.{AreClosed, JobCrosses}
 use Rattle.pr_crew.specs.Leaving.{HaveRun, IsLeft}
 use Rattle.pr_crew.specs.Making.{IsCellOf, NodeCell, NodePass}
 use Rattle.pr_crew.specs.Sites.{AreJoined, CanClose, IsBeside, IsClosed, IsSite}
-use Rattle.pr_crew.specs.Sound.{HaveSoundEnds}
+use Rattle.pr_crew.specs.Sound.{HaveEndsOf}
 use Rattle.pr_crew.specs.Starting.{CanEnd, CanStart, HaveEnded, HaveStarted, IsSplit}
 use Rattle.pr_crew.specs.Tasks.{IsDone, IsSamePass, IsSameStream, StaysJob, first_stop, numbers_of, of_node, passes_at, passes_of, stop_of, wires_of, work_of}
 use Rattle.pr_crew.proofs.Joined.{holds_all}
@@ -202,9 +202,9 @@ module _ {W : Type 0} (state : W → WireState) (plan : Plan) (h : List NodeEntr
         | inr le ↦ ([], λ lt. absurd (omega (arith, lt, le)), λ more. refl)
       ]
 
-      pub have_run : (stop : Result Stop NoMemory) → stop ≡ first_stop (map stop_of us) → (before after : Option (List (List ℕ))) → AreClosed state us before after → (A : Type 0) → (A → HaveSoundEnds us)
-          → (r : HaveRun W state plan h inside count streams was last ws stop) × AreClosed state r.jobs before after × (A → HaveSoundEnds r.jobs)
-      have_run stop is before after wires A sound = (
+      pub have_run : (stop : Result Stop NoMemory) → stop ≡ first_stop (map stop_of us) → (before after : Option (List (List ℕ))) → AreClosed state us before after → (P : ℕ → Type 0) → HaveEndsOf P us
+          → (r : HaveRun W state plan h inside count streams was last ws stop) × AreClosed state r.jobs before after × HaveEndsOf P r.jobs
+      have_run stop is before after wires P ends = (
         record {
           jobs = us;
           works = all_works us ws as_many planned;
@@ -227,5 +227,5 @@ module _ {W : Type 0} (state : W → WireState) (plan : Plan) (h : List NodeEntr
           stop_is = is;
         },
         wires,
-        sound,
+        ends,
       )

@@ -1,5 +1,5 @@
 -- The jobs of a phase, with what they work with.
-use Rattle.std.specs.Prelude.{ℕ, List, [], ◌∷◌, ◌++◌, ◌≡◌, ◌==◌, if◌then◌else◌, Contains, IfSome, IsTrue, Option, Some, None, Result, Ok, Err, map, slice_get}
+use Rattle.std.specs.Prelude.{ℕ, List, [], ◌∷◌, ◌++◌, ◌≡◌, ◌⊎◌, ◌==◌, if◌then◌else◌, Contains, IfSome, IsTrue, Option, Some, None, Result, Ok, Err, map, slice_get}
 use Rattle.std.specs.List.{flat_map}
 use Rattle.pr_cell.specs.Passes.{IsPassOf, held}
 use Rattle.pr_flow.specs.declared.flow_end.FlowEnd.{FlowEnd}
@@ -167,10 +167,10 @@ abbrev pub IsSoundWire : {W : Type 0} → (W → WireState) → Option W → Typ
 IsSoundWire state None = ⊥
 IsSoundWire state (Some w) = IsTrue (state w).sound
 
--- a flow's job has a wire that is sound
-abbrev pub HasSoundWire : {W : Type 0} → (W → WireState) → Task W → Type 0
-HasSoundWire state (tasks.Client t) = Unit {0}
-HasSoundWire state (tasks.Flow t) = IsSoundWire state t.wire
+-- a flow's job has a wire that is sound, or its stream is one of these
+abbrev pub HasKnownWire : {W : Type 0} → (W → WireState) → (ℕ → Type 0) → Task W → Type 0
+HasKnownWire state P (tasks.Client t) = Unit {0}
+HasKnownWire state P (tasks.Flow t) = IsSoundWire state t.wire ⊎ P t.work.stream
 
 -- where a flow's job had a wire that is sound, the flow ended as over such a wire
 abbrev pub IsHonest : {W : Type 0} → (W → WireState) → Task W → Task W → Type 0

@@ -1,5 +1,6 @@
 -- What the jobs of a phase work on.
 use Rattle.std.specs.Prelude.{ℕ, List, [], ◌∷◌, ◌≡◌, ◌≤◌, ◌<◌, ◌+◌, if◌then◌else◌, ◌==◌, length, sum_by}
+use Rattle.std.specs.List.{flat_map}
 use Rattle.pr_merge.specs.Holding.{HeldState}
 use Rattle.pr_script.specs.declared.owner.Owner.{Owner}
 use Rattle.pr_script.specs.declared.owner.Owner.TheVariants as owner
@@ -57,6 +58,16 @@ module _ (plan : Plan) (h : List NodeEntry) (count : ℕ) (inside : List Numbere
   AreWorks [] ws = ws ≡ []
   AreWorks (o ∷ os) [] = ⊥
   AreWorks (o ∷ os) (w ∷ ws) = IsWork o w × AreWorks os ws
+
+-- ---- flows
+
+-- the stream of a flow, and of all flows in order
+abbrev pub own_flow : Work → List ℕ
+own_flow (works.Client w) = []
+own_flow (works.Flow w) = w.stream ∷ []
+
+abbrev pub own_flows : List Work → List ℕ
+own_flows ws = flat_map own_flow ws
 
 -- ---- room
 

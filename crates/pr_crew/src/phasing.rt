@@ -6,13 +6,17 @@ ghost use Rattle.pr_crew.specs.Leaving.{HaveRun};
 ghost use Rattle.pr_crew.specs.Phases.{AllWork, AreDistinct, CanRunPhase, IsOut, IsPlanned, LeavesPhase, RepresentsNodes, SameAttached};
 ghost use Rattle.pr_crew.specs.Rooms.{HasRoomFor, KnowsOpening, total_at};
 ghost use Rattle.pr_merge.specs.Holding.{HeldState};
-ghost use Rattle.pr_crew.specs.Sound.{AddsSound, HaveSoundEnds};
+ghost use Rattle.pr_crew.specs.Sound.{AddsDownsOf, AddsSound, HaveEndsOf};
 ghost use Rattle.pr_crew.specs.Starting.{CanStart};
 ghost use Rattle.pr_crew.specs.Tasks.{IsDone, IsHonest, IsReady, StaysJob};
 ghost use Rattle.pr_crew.specs.declared.task.Task.{Task};
+ghost use Rattle.pr_crew.specs.Works.{own_flows};
+ghost use Rattle.pr_text.specs.Steps.{jobs_of};
+ghost use Rattle.pr_story.specs.Scripts.{Phase};
 ghost use Rattle.pr_story.specs.Merging.{New};
 ghost use Rattle.pr_merge.specs.Holding.{AreAllHere};
 ghost use Rattle.pr_node.specs.Stored.{Stored};
+ghost use Rattle.pr_flow.specs.Downs.{GoesOver, IsLieAt, IsUnsoundFor, flows_of};
 ghost use Rattle.pr_flow.specs.Lies.{IsNoLie};
 ghost use Rattle.pr_flow.specs.declared.stop.Stop.TheVariants as stops;
 ghost use Rattle.pr_script.specs.declared.owner.Owner.{Owner};
@@ -66,6 +70,8 @@ pub fn phase<R: Threads + Wait + Sync, H: Held<Node = Node>, W: Wires, G: Gate>(
     ensures no_lie { ((k : ℕ) → IsTrue (W.sound wires.old k)) → IsNoLie result }
     ensures carried { (d : Declared) (h : List NodeEntry) → RepresentsNodes (H.records held.old) d h (H.state held.old) → PhaseCarries (H.records held.new) d h inside.now (H.state held.new) (W.carried wires.old) (W.carried wires.new) result }
     ensures sound_events { (d : Declared) (h : List NodeEntry) → RepresentsNodes (H.records held.old) d h (H.state held.old) → ((k : ℕ) → IsTrue (W.sound wires.old k)) → AddsSound (H.records held.new) d h (H.state held.new) }
+    ensures over { GoesOver W.made W.sound (flows_of (Phase (jobs_of inside.now))) wires.old wires.new result }
+    ensures downs { (d : Declared) (h : List NodeEntry) → RepresentsNodes (H.records held.old) d h (H.state held.old) → AddsDownsOf (IsUnsoundFor (W.sound wires.old) (W.made wires.old) (flows_of (Phase (jobs_of inside.now)))) (H.records held.new) d h (H.state held.new) }
 {
     let owners = owners(alloc, inside)?;
     let works = plan(alloc, held, owners.as_slice(), inside)?;
@@ -109,9 +115,9 @@ fn over_cells<R: Threads + Wait + Sync, H: Held<Node = Node>, W: Wires, G: Gate>
     ensures out { W.out wires.new ≡ W.out wires.old }
     ensures faults { W.faults wires.old ≤ W.faults wires.new }
     ensures sound { W.sound wires.new ≡ W.sound wires.old }
-    ensures no_lie { ((k : ℕ) → IsTrue (W.sound wires.old k)) → IsNoLie result }
+    ensures over { GoesOver W.made W.sound (own_flows works.now) wires.old wires.new result }
     ensures carried { (d : Declared) (h : List NodeEntry) → IsPlanned (H.records held.old) d h inside.now works.now count (H.state held.old) → PhaseCarries (H.records held.new) d h inside.now (H.state held.new) (W.carried wires.old) (W.carried wires.new) result }
-    ensures sound_events { (d : Declared) (h : List NodeEntry) → IsPlanned (H.records held.old) d h inside.now works.now count (H.state held.old) → ((k : ℕ) → IsTrue (W.sound wires.old k)) → AddsSound (H.records held.new) d h (H.state held.new) }
+    ensures downs { (d : Declared) (h : List NodeEntry) → IsPlanned (H.records held.old) d h inside.now works.now count (H.state held.old) → AddsDownsOf (IsUnsoundFor (W.sound wires.old) (W.made wires.old) (own_flows works.now)) (H.records held.new) d h (H.state held.new) }
 {
     let sites = Sites::open(alloc, held, count, works.len() as u32 + 1)?;
     match Vec::with_capacity(alloc, works.len()) {
@@ -152,9 +158,10 @@ fn in_room<R: Threads + Wait + Sync, H: Held<Node = Node>, W: Wires, G: Gate>(
     ensures out { W.out wires.new ≡ W.out wires.old }
     ensures faults { W.faults wires.old ≤ W.faults wires.new }
     ensures sound { W.sound wires.new ≡ W.sound wires.old }
-    ensures no_lie { ((k : ℕ) → IsTrue (W.sound wires.old k)) → IsNoLie result }
+    ensures each_made { W.made wires.new ≡ W.made wires.old + length (own_flows works.now) }
+    ensures lie { IsLieAt (IsUnsoundFor (W.sound wires.old) (W.made wires.old) (own_flows works.now)) result }
     ensures carried { (d : Declared) (h : List NodeEntry) (was : HeldState Stored) → IsOut (H.records held.old) d h inside.now works.now sites was (H.state held.old) → KnowsOpening h (length sites.cells.items) room → PhaseCarries (H.records held.new) d h inside.now (H.state held.new) (W.carried wires.old) (W.carried wires.new) result }
-    ensures sound_events { (d : Declared) (h : List NodeEntry) (was : HeldState Stored) → IsOut (H.records held.old) d h inside.now works.now sites was (H.state held.old) → KnowsOpening h (length sites.cells.items) room → ((k : ℕ) → IsTrue (W.sound wires.old k)) → AddsSound (H.records held.new) d h (H.state held.new) }
+    ensures downs { (d : Declared) (h : List NodeEntry) (was : HeldState Stored) → IsOut (H.records held.old) d h inside.now works.now sites was (H.state held.old) → KnowsOpening h (length sites.cells.items) room → AddsDownsOf (IsUnsoundFor (W.sound wires.old) (W.made wires.old) (own_flows works.now)) (H.records held.new) d h (H.state held.new) }
 {
     let stop = run(rt, alloc, held, wires, gate, works, inside, sites, tasks);
     room.append(held);
@@ -180,14 +187,15 @@ fn run<R: Threads + Wait + Sync, H: Held<Node = Node>, W: Wires, G: Gate>(
     requires empty { tasks.items ≡ [] }
     requires room { length works.now ≤ vec_capacity tasks }
     requires few { W.made wires.old + length works.now ≤ 2 ^ 40 }
-    ensures ran { (plan : Plan) (h : List NodeEntry) (owners : List Owner) (streams : ℕ → ℕ) → CanStart plan h (length sites.cells.items) inside.now owners streams (H.state held.old) sites works.now → (r : HaveRun W.Wire W.Wire.state plan h inside.now (length sites.cells.items) streams (H.state held.old) (H.state held.new) works.now result) × AreClosed W.Wire.state r.jobs (W.carried wires.old) (W.carried wires.new) × (((k : ℕ) → IsTrue (W.sound wires.old k)) → HaveSoundEnds r.jobs) }
+    ensures ran { (plan : Plan) (h : List NodeEntry) (owners : List Owner) (streams : ℕ → ℕ) → CanStart plan h (length sites.cells.items) inside.now owners streams (H.state held.old) sites works.now → (r : HaveRun W.Wire W.Wire.state plan h inside.now (length sites.cells.items) streams (H.state held.old) (H.state held.new) works.now result) × AreClosed W.Wire.state r.jobs (W.carried wires.old) (W.carried wires.new) × HaveEndsOf (IsUnsoundFor (W.sound wires.old) (W.made wires.old) (own_flows works.now)) r.jobs }
     ensures records { (d : Declared) (h : List NodeEntry) → H.records held.old d h → H.records held.new d h }
     ensures places { (n : ℕ) → H.has_room held.old n → H.has_room held.new n }
     ensures made { W.made wires.new ≤ W.made wires.old + length works.now }
     ensures out { W.out wires.new ≡ W.out wires.old }
     ensures faults { W.faults wires.old ≤ W.faults wires.new }
     ensures sound { W.sound wires.new ≡ W.sound wires.old }
-    ensures no_lie { ((k : ℕ) → IsTrue (W.sound wires.old k)) → IsNoLie result }
+    ensures each_made { W.made wires.new ≡ W.made wires.old + length (own_flows works.now) }
+    ensures lie { IsLieAt (IsUnsoundFor (W.sound wires.old) (W.made wires.old) (own_flows works.now)) result }
 {
     start(held, wires, &mut sites, works, &mut tasks);
     run_jobs(rt, gate, alloc, sites.cells.as_slice(), inside, &mut tasks);

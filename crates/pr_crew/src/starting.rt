@@ -1,7 +1,9 @@
 // Jobs get what they work with before they run, and give it back afterwards.
 ghost use Rattle.pr_crew.specs.Crossing.{AreClosed, ClosesJob, IsClosed};
 ghost use Rattle.pr_crew.specs.Starting.{CanEnd, CanEndOne, CanStart, CanStartOne, EndsOne, HaveEnded, HaveStarted, StartsOne};
-ghost use Rattle.pr_crew.specs.Tasks.{HasSoundWire, IsSoundWire, count_of, first_of_two, first_stop, stop_of, stop_of_client, stop_of_fault, stop_of_flow, wires_of};
+ghost use Rattle.pr_crew.specs.Tasks.{HasKnownWire, IsSoundWire, count_of, first_of_two, first_stop, stop_of, stop_of_client, stop_of_fault, stop_of_flow, wires_of};
+ghost use Rattle.pr_crew.specs.Works.{own_flow, own_flows};
+ghost use Rattle.pr_flow.specs.Downs.{IsUnsoundFor};
 ghost use Rattle.pr_inval.specs.Standing.{Remembered};
 ghost use Rattle.pr_script.specs.Steps.{Numbered};
 ghost use Rattle.pr_script.specs.declared.owner.Owner.{Owner};
@@ -41,7 +43,8 @@ pub(crate) fn start<H: Held<Node = Node>, W: Wires>(
     ensures faults { W.faults wires.old ≤ W.faults wires.new }
     ensures sound { W.sound wires.new ≡ W.sound wires.old }
     ensures carried { W.carried wires.new ≡ W.carried wires.old }
-    ensures sound_wires { ((k : ℕ) → IsTrue (W.sound wires.old k)) → All (HasSoundWire W.Wire.state) tasks.new.items }
+    ensures each_made { W.made wires.new ≡ W.made wires.old + length (own_flows works.now) }
+    ensures known_wires { All (HasKnownWire W.Wire.state (IsUnsoundFor (W.sound wires.old) (W.made wires.old) (own_flows works.now))) tasks.new.items }
 {
     for work in works {
         let task = start_one(held, wires, sites, work);
@@ -66,7 +69,8 @@ fn start_one<H: Held<Node = Node>, W: Wires>(
     ensures faults { W.faults wires.old ≤ W.faults wires.new }
     ensures sound { W.sound wires.new ≡ W.sound wires.old }
     ensures carried { W.carried wires.new ≡ W.carried wires.old }
-    ensures sound_wire { IsTrue (W.sound wires.old (W.made wires.old + 1)) → HasSoundWire W.Wire.state result }
+    ensures one_made { W.made wires.new ≡ W.made wires.old + length (own_flow work.now) }
+    ensures known_wire { HasKnownWire W.Wire.state (IsUnsoundFor (W.sound wires.old) (W.made wires.old) (own_flow work.now)) result }
 {
     match *work {
         Work::Client(work) => Task::Client(ClientTask {

@@ -6,3 +6,4 @@ pub mod Scripted
 pub mod Answering
 pub mod Whole
 pub mod Keeping
+pub mod Downs

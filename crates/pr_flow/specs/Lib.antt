@@ -6,3 +6,4 @@ pub mod Ending
 pub mod Lies
 pub mod Crossing
 pub mod Sound
+pub mod Downs

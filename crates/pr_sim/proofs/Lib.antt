@@ -31,3 +31,4 @@ pub mod Crossing
 pub mod Carrying
 pub mod Sound
 pub mod SoundLines
+pub mod WireDowns

@@ -1,11 +1,12 @@
 // The jobs of a phase, one after the other.
+ghost use Rattle.pr_flow.specs.Downs.{GoesOver, IsUnsoundFor, flow_of, flows_of};
 ghost use Rattle.pr_script.specs.Steps.{turns_in};
 ghost use Rattle.pr_sim.specs.Commands.{ForEachRun, StepEnds};
 ghost use Rattle.pr_sim.specs.Crossing.{JobAdds, PhaseCarries};
 ghost use Rattle.pr_sim.specs.Flowing.{AreFewWires};
 ghost use Rattle.pr_sim.specs.Phasing.{CanDo, CanRunPhase, GivesAll, GoodPhaseCanRun, IsJobLine, JobEnds, asked_by, asked_of};
 ghost use Rattle.pr_sim.specs.Running.{IsKept};
-ghost use Rattle.pr_sim.specs.Sound.{AddsSound};
+ghost use Rattle.pr_sim.specs.Sound.{AddsDownsOf, AddsSound};
 ghost use Rattle.pr_sim.specs.Stepping.{CanRun, StepsByWires};
 ghost use Rattle.pr_story.specs.Scripts.{Phase};
 ghost use Rattle.pr_text.specs.Steps.{job_of, jobs_of};
@@ -37,6 +38,8 @@ impl Engine {
         ensures carried { ForEachRun self.old (λ d attached h. PhaseCarries (jobs_of inside.now) (W.carried wires.old) (W.carried wires.new) d attached h self.new result) }
         ensures wires { StepsByWires W.faults W.made W.out W.sound 64 wires.old wires.new result }
         ensures sound_events { ForEachRun self.old (λ d attached h. ((k : ℕ) → IsTrue (W.sound wires.old k)) → AddsSound d h self.new) }
+        ensures over { GoesOver W.made W.sound (flows_of (Phase (jobs_of inside.now))) wires.old wires.new result }
+        ensures downs { ForEachRun self.old (λ d attached h. AddsDownsOf (IsUnsoundFor (W.sound wires.old) (W.made wires.old) (flows_of (Phase (jobs_of inside.now)))) d h self.new) }
     {
         let owners = owners(self.alloc, inside)?;
         for owner in owners.as_slice() {
@@ -63,6 +66,8 @@ impl Engine {
         ensures carried { ForEachRun self.old (λ d attached h. JobAdds (job_of inside.now owner) (W.carried wires.old) (W.carried wires.new) d attached h self.new result) }
         ensures wires { StepsByWires W.faults W.made W.out W.sound 1 wires.old wires.new result }
         ensures sound_events { ForEachRun self.old (λ d attached h. IsTrue (W.sound wires.old (W.made wires.old + 1)) → AddsSound d h self.new) }
+        ensures over { GoesOver W.made W.sound (flow_of (job_of inside.now owner)) wires.old wires.new result }
+        ensures downs { ForEachRun self.old (λ d attached h. AddsDownsOf (IsUnsoundFor (W.sound wires.old) (W.made wires.old) (flow_of (job_of inside.now owner))) d h self.new) }
     {
         match owner {
             Owner::Client(client) => went(self.client_job(client, inside)),

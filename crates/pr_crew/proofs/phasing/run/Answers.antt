@@ -1,9 +1,11 @@
-use Rattle.std.proofs.Common.{◌≡◌, ℕ, List, ap, ◌∙◌, sym, subst, length, get_or, arith}
-use Rattle.std.specs.Prelude.{IsTrue, None}
+use Rattle.std.proofs.Common.{◌≡◌, List, ap, ◌∙◌, sym, subst, length, get_or, arith}
+use Rattle.std.specs.Prelude.{None}
 use Rattle.pr_crew.specs.Crossing.{AreClosed, JobCrosses}
 use Rattle.pr_crew.specs.Tasks.{IsDone, IsReady}
 use Rattle.pr_story.specs.Merging.{New}
-use Rattle.pr_crew.proofs.Honest.{sound_ends, stop_honest}
+use Rattle.pr_crew.proofs.Honest.{ends_of, stop_honest}
+use Rattle.pr_crew.specs.Works.{own_flows}
+use Rattle.pr_flow.specs.Downs.{IsUnsoundFor}
 use Rattle.pr_crew.proofs.Whole.{all_wires, can_close, can_end, have_run}
 use Rattle.pr_crew.proofs.phasing.run.Goals as goal
 
@@ -47,7 +49,7 @@ pub returns-clause-ran : goal.returns-clause-ran
 returns-clause-ran g c plan h owners streams can =
     have_run g.W.Wire.Wire.state plan h (length c.args.sites.cells.items) c.args.inside.now owners streams (g.H.Held.state c.args.held.now) (g.H.Held.state c.start.new.held) c.args.sites c.start.new.sites c.args.works.now c.start.new.tasks.items c.run_jobs.new.tasks.items can (c.start.ensures.started plan h (length c.args.sites.cells.items) c.args.inside.now owners streams can) c.run_jobs.ensures.many (λ k u at. subst (λ cells. (xs : List New) × IsDone plan h c.args.inside.now cells k u xs × JobCrosses g.W.Wire.Wire.state u xs) c.as_slice.ensures.value (c.run_jobs.ensures.done plan h (λ k t at. subst (λ cells. IsReady plan h cells g.W.Wire.Wire.state t) (sym c.as_slice.ensures.value) ((c.start.ensures.started plan h (length c.args.sites.cells.items) c.args.inside.now owners streams can).ready k t at)) k u at)) c.run_jobs.ensures.stay (g.H.Held.state c.end-stop.new.held) c.end-stop.new.sites (c.end-stop.ensures.ended plan h (length c.args.sites.cells.items) streams (can_end g.W.Wire.Wire.state plan h (length c.args.sites.cells.items) c.args.inside.now owners streams (g.H.Held.state c.args.held.now) (g.H.Held.state c.start.new.held) c.args.sites c.start.new.sites c.args.works.now c.start.new.tasks.items c.run_jobs.new.tasks.items can (c.start.ensures.started plan h (length c.args.sites.cells.items) c.args.inside.now owners streams can) c.run_jobs.ensures.many (λ k u at. subst (λ cells. (xs : List New) × IsDone plan h c.args.inside.now cells k u xs × JobCrosses g.W.Wire.Wire.state u xs) c.as_slice.ensures.value (c.run_jobs.ensures.done plan h (λ k t at. subst (λ cells. IsReady plan h cells g.W.Wire.Wire.state t) (sym c.as_slice.ensures.value) ((c.start.ensures.started plan h (length c.args.sites.cells.items) c.args.inside.now owners streams can).ready k t at)) k u at)) c.run_jobs.ensures.stay)) c.end-stop.ensures.cells (g.H.Held.state c.close.new.held) c.close.ensures.beside (λ n d p site of_node. c.close.ensures.closed plan h n d p site of_node) c.end-stop.result c.end-stop.ensures.stop (g.W.Wires.carried c.args.wires.now) (g.W.Wires.carried c.end-stop.new.wires)
     (subst (λ carried. AreClosed g.W.Wire.Wire.state c.run_jobs.new.tasks.items carried (g.W.Wires.carried c.end-stop.new.wires)) c.start.ensures.carried c.end-stop.ensures.carried)
-    ((k : ℕ) → IsTrue (g.W.Wires.sound c.args.wires.now k)) (λ all. sound_ends g.W.Wire.Wire.state c.start.new.tasks.items c.run_jobs.new.tasks.items (c.start.ensures.sound_wires all) c.run_jobs.ensures.many c.run_jobs.ensures.stay c.run_jobs.ensures.honest)
+    (λ x. IsUnsoundFor (g.W.Wires.sound c.args.wires.now) (g.W.Wires.made c.args.wires.now) (own_flows c.args.works.now) x) (ends_of (λ x. IsUnsoundFor (g.W.Wires.sound c.args.wires.now) (g.W.Wires.made c.args.wires.now) (own_flows c.args.works.now) x) g.W.Wire.Wire.state c.start.new.tasks.items c.run_jobs.new.tasks.items c.start.ensures.known_wires c.run_jobs.ensures.many c.run_jobs.ensures.stay c.run_jobs.ensures.honest)
 
 pub returns-clause-records : goal.returns-clause-records
 returns-clause-records g c d h keeps = c.close.ensures.records d h (c.end-stop.ensures.records d h (c.start.ensures.records d h keeps))
@@ -62,6 +64,8 @@ returns-clause-out g c =
     let same = all_wires c.start.new.tasks.items c.run_jobs.new.tasks.items c.run_jobs.ensures.many c.run_jobs.ensures.stay in
     omega (arith, out, then, same)
 
-pub returns-clause-no_lie : goal.returns-clause-no_lie
-returns-clause-no_lie g c all =
-    stop_honest g.W.Wire.Wire.state c.start.new.tasks.items c.run_jobs.new.tasks.items c.end-stop.result (c.start.ensures.sound_wires all) c.run_jobs.ensures.many c.run_jobs.ensures.stay c.run_jobs.ensures.honest c.end-stop.ensures.stop
+pub returns-clause-each_made : goal.returns-clause-each_made
+returns-clause-each_made g c = c.end-stop.ensures.same.0 ∙ c.start.ensures.each_made
+
+pub returns-clause-lie : goal.returns-clause-lie
+returns-clause-lie g c = stop_honest (λ x. IsUnsoundFor (g.W.Wires.sound c.args.wires.now) (g.W.Wires.made c.args.wires.now) (own_flows c.args.works.now) x) c.run_jobs.new.tasks.items c.end-stop.result (ends_of (λ x. IsUnsoundFor (g.W.Wires.sound c.args.wires.now) (g.W.Wires.made c.args.wires.now) (own_flows c.args.works.now) x) g.W.Wire.Wire.state c.start.new.tasks.items c.run_jobs.new.tasks.items c.start.ensures.known_wires c.run_jobs.ensures.many c.run_jobs.ensures.stay c.run_jobs.ensures.honest) c.end-stop.ensures.stop

@@ -1,9 +1,14 @@
-use Rattle.std.proofs.Common.{rules, ◌≡◌, ◌+◌, ap, ◌∙◌, refl, sym, subst, length, arith}
-use Rattle.std.specs.Prelude.{All, IsTrue, sum_by}
-use Rattle.std.proofs.lemmas.List.Elements.{All-nil, All-push}
+use Rattle.std.proofs.Common.{rules, ◌≡◌, ◌≤◌, ◌+◌, [], ap, take, ◌∙◌, refl, sym, subst, length, arith}
+use Rattle.std.specs.Prelude.{All, sum_by}
+use Rattle.std.proofs.lemmas.List.{take_all}
+use Rattle.pr_flow.specs.Downs.{IsUnsoundFor}
+use Rattle.pr_flow.proofs.Downs.{made_on}
+use Rattle.std.proofs.lemmas.List.Elements.{All-nil}
 use Rattle.std.proofs.lemmas.Option.{slice_get_read}
 use Rattle.pr_crew.specs.Starting.{HaveStarted}
-use Rattle.pr_crew.specs.Tasks.{HasSoundWire, wires_of}
+use Rattle.pr_crew.specs.Tasks.{HasKnownWire, wires_of}
+use Rattle.pr_crew.specs.Works.{own_flow, own_flows}
+use Rattle.pr_crew.proofs.Honest.{flows_push, known_push}
 use Rattle.pr_crew.proofs.Places.{sum_push}
 use Rattle.pr_crew.proofs.Starts.{can_start, none_started, one_started}
 use Rattle.pr_crew.proofs.starting.start.Goals as goal
@@ -22,7 +27,9 @@ loop-work-init g c = record {
   faults = omega arith;
   sound = refl;
   carried = refl;
-  sound_wires = λ all. subst (λ ts. All (HasSoundWire g.W.Wire.Wire.state) ts) (sym c.requires.empty) (All-nil (HasSoundWire g.W.Wire.Wire.state));
+  each_made = omega arith;
+  known_wires = subst (λ ts. All (HasKnownWire g.W.Wire.Wire.state (λ x. IsUnsoundFor (g.W.Wires.sound c.args.wires.now) (g.W.Wires.made c.args.wires.now) [] x)) ts) (sym c.requires.empty)
+      (All-nil (HasKnownWire g.W.Wire.Wire.state (λ x. IsUnsoundFor (g.W.Wires.sound c.args.wires.now) (g.W.Wires.made c.args.wires.now) [] x)));
 }
 
 pub start_one-task-requires-clause-can : goal.start_one-task-requires-clause-can
@@ -61,10 +68,16 @@ loop-work-preserved g c = record {
   faults = search rules;
   sound = search rules;
   carried = search rules;
-  sound_wires = λ all.
-      let one = c.start_one-task.ensures.sound_wire (subst (λ sound. IsTrue (sound (g.W.Wires.made c.loop-work.wires + 1))) (sym c.loop-work.invariant.sound) (all (g.W.Wires.made c.loop-work.wires + 1))) in
-      subst (λ ts. All (HasSoundWire g.W.Wire.Wire.state) ts) (sym c.push_reserved.ensures.items)
-      (All-push (HasSoundWire g.W.Wire.Wire.state) c.loop-work.tasks.items c.start_one-task.result (c.loop-work.invariant.sound_wires all) one);
+  each_made =
+      made_on (g.W.Wires.made c.args.wires.now) (g.W.Wires.made c.loop-work.wires) (g.W.Wires.made c.start_one-task.new.wires) (own_flows (take c.loop-work.work-index c.args.works.now)) (own_flow c.work-item.result) [] (own_flows (take (c.loop-work.work-index + 1) c.args.works.now))
+      (flows_push c.args.works.now c.loop-work.work-index c.work-item.result (slice_get_read c.args.works.now (length c.args.works.now) c.loop-work.work-index c.work-item.result refl c.loop-work-test.true c.work-item.is)) refl
+      c.loop-work.invariant.each_made c.start_one-task.ensures.one_made;
+  known_wires =
+      subst (λ ts. All (HasKnownWire g.W.Wire.Wire.state (λ x. IsUnsoundFor (g.W.Wires.sound c.args.wires.now) (g.W.Wires.made c.args.wires.now) (own_flows (take (c.loop-work.work-index + 1) c.args.works.now)) x)) ts) (sym c.push_reserved.ensures.items)
+      (known_push g.W.Wire.Wire.state (g.W.Wires.sound c.args.wires.now) (g.W.Wires.sound c.loop-work.wires) (g.W.Wires.made c.args.wires.now) (g.W.Wires.made c.loop-work.wires) (own_flows (take c.loop-work.work-index c.args.works.now)) (own_flow c.work-item.result)
+      (own_flows (take (c.loop-work.work-index + 1) c.args.works.now)) c.loop-work.tasks.items c.start_one-task.result c.loop-work.invariant.sound c.loop-work.invariant.each_made
+      (flows_push c.args.works.now c.loop-work.work-index c.work-item.result (slice_get_read c.args.works.now (length c.args.works.now) c.loop-work.work-index c.work-item.result refl c.loop-work-test.true c.work-item.is))
+      c.loop-work.invariant.known_wires c.start_one-task.ensures.known_wire);
 }
 
 pub returns-clause-started : goal.returns-clause-started
@@ -72,3 +85,13 @@ returns-clause-started g c plan h count inside owners streams can =
     let end : c.loop-work.work-index ≡ length c.args.works.now = search rules in
     subst (λ i. HaveStarted g.W.Wire.Wire.state plan h count streams (g.H.Held.state c.args.held.now) (g.H.Held.state c.loop-work.held) c.loop-work.sites c.args.works.now i c.loop-work.tasks.items) end
     (c.loop-work.invariant.started plan h count inside owners streams can)
+
+pub returns-clause-each_made : goal.returns-clause-each_made
+returns-clause-each_made g c =
+    let past : length c.args.works.now ≤ c.loop-work.work-index = search rules in
+    subst (λ ws. g.W.Wires.made c.loop-work.wires ≡ g.W.Wires.made c.args.wires.now + length (own_flows ws)) (take_all c.loop-work.work-index c.args.works.now past) c.loop-work.invariant.each_made
+
+pub returns-clause-known_wires : goal.returns-clause-known_wires
+returns-clause-known_wires g c =
+    let past : length c.args.works.now ≤ c.loop-work.work-index = search rules in
+    subst (λ ws. All (HasKnownWire g.W.Wire.Wire.state (λ x. IsUnsoundFor (g.W.Wires.sound c.args.wires.now) (g.W.Wires.made c.args.wires.now) (own_flows ws) x)) c.loop-work.tasks.items) (take_all c.loop-work.work-index c.args.works.now past) c.loop-work.invariant.known_wires

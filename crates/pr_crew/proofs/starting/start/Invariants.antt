@@ -1,11 +1,13 @@
-use Rattle.std.proofs.Common.{◌≡◌, ◌≤◌, ◌+◌, ℕ, List, length}
-use Rattle.std.specs.Prelude.{All, IsTrue, sum_by, vec_capacity}
+use Rattle.std.proofs.Common.{◌≡◌, ◌≤◌, ◌+◌, ℕ, List, length, take}
+use Rattle.std.specs.Prelude.{All, sum_by, vec_capacity}
 use Rattle.pr_script.specs.Steps.{Numbered}
 use Rattle.pr_script.specs.declared.owner.Owner.{Owner}
 use Rattle.pr_story.specs.Counts.{Declared}
 use Rattle.pr_story.specs.History.{NodeEntry, Plan}
 use Rattle.pr_crew.specs.Starting.{CanStart, HaveStarted}
-use Rattle.pr_crew.specs.Tasks.{HasSoundWire, wires_of}
+use Rattle.pr_crew.specs.Tasks.{HasKnownWire, wires_of}
+use Rattle.pr_crew.specs.Works.{own_flows}
+use Rattle.pr_flow.specs.Downs.{IsUnsoundFor}
 use Rattle.pr_crew.proofs.starting.start.Given as goal
 
 abbrev pub invariant-loop-work : goal.invariant-loop-work
@@ -21,5 +23,6 @@ invariant-loop-work g l = record {
   faults : g.W.Wires.faults l.initial.wires ≤ g.W.Wires.faults l.wires;
   sound : g.W.Wires.sound l.wires ≡ g.W.Wires.sound l.initial.wires;
   carried : g.W.Wires.carried l.wires ≡ g.W.Wires.carried l.initial.wires;
-  sound_wires : ((k : ℕ) → IsTrue (g.W.Wires.sound l.initial.wires k)) → All (HasSoundWire g.W.Wire.Wire.state) l.tasks.items;
+  each_made : g.W.Wires.made l.wires ≡ g.W.Wires.made l.initial.wires + length (own_flows (take l.work-index l.works));
+  known_wires : All (HasKnownWire g.W.Wire.Wire.state (λ x. IsUnsoundFor (g.W.Wires.sound l.initial.wires) (g.W.Wires.made l.initial.wires) (own_flows (take l.work-index l.works)) x)) l.tasks.items;
 }

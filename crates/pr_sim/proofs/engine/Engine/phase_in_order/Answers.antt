@@ -2,6 +2,8 @@ use Rattle.std.proofs.Common.{◌≡◌, ℕ, ◌<◌, ◌≤◌, ◌+◌, List,
 use Rattle.std.specs.Prelude.{Bool, IsTrue, map, reverse}
 use Rattle.std.proofs.lemmas.List.{take_all}
 use Rattle.std.proofs.lemmas.Result.{err_from_is_err_and}
+use Rattle.std.specs.List.{flat_map}
+use Rattle.pr_flow.specs.Downs.{IsUnsoundFor, flow_of}
 use Rattle.pr_flow.specs.declared.stop.Stop.{Stop}
 use Rattle.pr_flow.specs.declared.stop.Stop.TheVariants as stops
 use Rattle.pr_script.specs.declared.owner.Owner.{Owner}
@@ -19,6 +21,9 @@ use Rattle.pr_sim.proofs.JobsInOrder.{lines_can}
 use Rattle.pr_sim.specs.Crossing.{JobAdds, JobsCarry}
 use Rattle.pr_sim.proofs.Carrying.{other_stop, phase_more, phase_none}
 use Rattle.pr_sim.proofs.Sound.{adds_more, nothing_added, same_added}
+use Rattle.pr_sim.specs.Sound.{AddsDownsOf}
+use Rattle.pr_sim.proofs.WireDowns.{downs_next, flows_split, made_next, over_there, sound_adds}
+use Rattle.pr_flow.proofs.Downs.{refused_over}
 use Rattle.pr_sim.proofs.engine.Engine.phase_in_order.Goals as goal
 
 pub returns-in_err-owners-clause-steps : goal.returns-in_err-owners-clause-steps
@@ -34,6 +39,8 @@ loop-owner-init g c = record {
   given = λ d attached h k. ([], k, refl);
   carried = λ d attached h k. ([], k, (refl, refl));
   sounds = λ all d attached h k. nothing_added d attached h c.args.self.now k;
+  downs = λ d attached h k. sound_adds (λ x. IsUnsoundFor (g.W.Wires.sound c.args.wires.now) (g.W.Wires.made c.args.wires.now) [] x) d h c.args.self.now (nothing_added d attached h c.args.self.now k);
+  made = omega arith;
   wires = wires_same g.W.Wires.faults g.W.Wires.made g.W.Wires.out g.W.Wires.sound c.args.wires.now;
 }
 
@@ -63,6 +70,8 @@ returns-in_default g c =
     let o = get_or c.as_slice-owner-items.result.now i (owner.Client 0) in
     let lt : i < length os = subst (λ (xs : List Owner). i < length xs) same c.loop-owner-test.true in
     let is : o ≡ get_or os i (owner.Client 0) = ap (λ (xs : List Owner). get_or xs i (owner.Client 0)) same in
+    let made = g.W.Wires.made in
+    let sound = g.W.Wires.sound in
     record {
       steps = λ d attached h k.
           let first = l.given d attached h k in
@@ -72,6 +81,9 @@ returns-in_default g c =
       carried = λ d attached h k. other_stop d attached h c.job.new.self (g.W.Wires.carried c.args.wires.now) (g.W.Wires.carried c.job.new.wires) (jobs_of inside) c.in_ok-stop.stop c.in_default.not-Went;
       wires = wires_stop g.W.Wires.faults g.W.Wires.made g.W.Wires.out g.W.Wires.sound i c.args.wires.now c.loop-owner.wires c.job.new.wires (Ok c.in_ok-stop.stop) (Ok c.in_ok-stop.stop) refl l.wires
           (let most = c.requires.can.jobs in omega (arith, most, lt)) c.in_ok-stop.ensures.wires;
+      over = over_there made sound c.args.wires.now c.loop-owner.wires c.job.new.wires (flat_map flow_of (map (job_of inside) (take i os))) (flow_of (job_of inside o)) (flat_map flow_of (map (job_of inside) (drop (i + 1) os))) (flat_map flow_of (jobs_of inside)) l.wires.same_sound (flows_split (jobs_of inside) (map (job_of inside) (take i os)) (job_of inside o) (map (job_of inside) (drop (i + 1) os)) (map_split (job_of inside) os i o (owner.Client 0) lt is)) l.made
+          (Ok c.in_ok-stop.stop) (λ went. c.in_default.not-Went (ok_same c.in_ok-stop.stop stops.Went (Ok c.in_ok-stop.stop) refl went)) c.in_ok-stop.ensures.over;
+      downs = λ d attached h k. let first = l.given d attached h k in downs_next (sound c.args.wires.now) (sound c.loop-owner.wires) (made c.args.wires.now) (made c.loop-owner.wires) (flat_map flow_of (map (job_of inside) (take i os))) (flow_of (job_of inside o)) (flat_map flow_of (map (job_of inside) (drop (i + 1) os))) (flat_map flow_of (jobs_of inside)) l.wires.same_sound (flows_split (jobs_of inside) (map (job_of inside) (take i os)) (job_of inside o) (map (job_of inside) (drop (i + 1) os)) (map_split (job_of inside) os i o (owner.Client 0) lt is)) l.made d attached h first.0 c.loop-owner.self c.job.new.self first.1 (l.downs d attached h k) (c.job.ensures.downs d attached (first.0 ++ h) first.1);
       sound_events = λ d attached h k all. let first = l.given d attached h k in adds_more d h first.0 c.job.new.self (same_added d attached h first.0 c.loop-owner.self first.1 (l.sounds all d attached h k)) (c.job.ensures.sound_events d attached (first.0 ++ h) first.1 (subst (λ (sound : ℕ → Bool). IsTrue (sound (g.W.Wires.made c.loop-owner.wires + 1))) (sym l.wires.same_sound) (all (g.W.Wires.made c.loop-owner.wires + 1))));
     }
 
@@ -85,6 +97,8 @@ loop-owner-preserved g c =
     let o = get_or c.as_slice-owner-items.result.now i (owner.Client 0) in
     let lt : i < length os = subst (λ (xs : List Owner). i < length xs) same c.loop-owner-test.true in
     let is : o ≡ get_or os i (owner.Client 0) = ap (λ (xs : List Owner). get_or xs i (owner.Client 0)) same in
+    let made = g.W.Wires.made in
+    let sound = g.W.Wires.sound in
     let k = l.kept in
     let then = subst (λ (x : Stop). JobEnds (job_of inside o) k.0 k.1 k.2 c.job.new.self (Ok x)) c.in-Went.is (c.in_ok-stop.ensures.ends k.0 k.1 k.2 k.3) in
     record {
@@ -101,6 +115,8 @@ loop-owner-preserved g c =
           let on = phase_more d attached h first.0 c.job.new.self (map (job_of inside) (take i os)) (job_of inside o) (carried c.args.wires.now) (carried c.loop-owner.wires) (carried c.job.new.wires) first.2
           (subst (λ (x : Stop). JobAdds (job_of inside o) (carried c.loop-owner.wires) (carried c.job.new.wires) d attached (first.0 ++ h) c.job.new.self (Ok x)) c.in-Went.is (c.in_ok-stop.ensures.carried d attached (first.0 ++ h) first.1)) in
           (on.0, on.1, subst (λ (js : List Job). JobsCarry js (reverse on.0) (carried c.args.wires.now) (carried c.job.new.wires)) (sym (map_more (job_of inside) os i o (owner.Client 0) lt is)) on.2);
+      downs = λ d attached h k. let first = l.given d attached h k in downs_next (sound c.args.wires.now) (sound c.loop-owner.wires) (made c.args.wires.now) (made c.loop-owner.wires) (flat_map flow_of (map (job_of inside) (take i os))) (flow_of (job_of inside o)) [] (flat_map flow_of (map (job_of inside) (take (i + 1) os))) l.wires.same_sound (flows_split (map (job_of inside) (take (i + 1) os)) (map (job_of inside) (take i os)) (job_of inside o) [] (map_more (job_of inside) os i o (owner.Client 0) lt is)) l.made d attached h first.0 c.loop-owner.self c.job.new.self first.1 (l.downs d attached h k) (c.job.ensures.downs d attached (first.0 ++ h) first.1);
+      made = made_next made sound c.args.wires.now c.loop-owner.wires c.job.new.wires (flat_map flow_of (map (job_of inside) (take i os))) (flow_of (job_of inside o)) [] (flat_map flow_of (map (job_of inside) (take (i + 1) os))) l.wires.same_sound (flows_split (map (job_of inside) (take (i + 1) os)) (map (job_of inside) (take i os)) (job_of inside o) [] (map_more (job_of inside) os i o (owner.Client 0) lt is)) l.made refl (c.in_ok-stop.ensures.over.each_made (ap (λ (x : Stop). Ok x) c.in-Went.is));
       sounds = λ all d attached h r. let first = l.given d attached h r in adds_more d h first.0 c.job.new.self (same_added d attached h first.0 c.loop-owner.self first.1 (l.sounds all d attached h r)) (c.job.ensures.sound_events d attached (first.0 ++ h) first.1 (subst (λ (sound : ℕ → Bool). IsTrue (sound (g.W.Wires.made c.loop-owner.wires + 1))) (sym l.wires.same_sound) (all (g.W.Wires.made c.loop-owner.wires + 1))));
       wires = wires_more g.W.Wires.faults g.W.Wires.made g.W.Wires.out g.W.Wires.sound i c.args.wires.now c.loop-owner.wires c.job.new.wires (Ok c.in_ok-stop.stop) l.wires c.in_ok-stop.ensures.wires;
     }
@@ -136,3 +152,46 @@ returns-in_err-stop-clause-sound_events g c d attached h k all =
 
 pub returns-clause-sound_events : goal.returns-clause-sound_events
 returns-clause-sound_events g c d attached h k all = c.loop-owner.invariant.sounds all d attached h k
+
+pub returns-in_err-owners-clause-over : goal.returns-in_err-owners-clause-over
+returns-in_err-owners-clause-over g c =
+    let p = err_from_is_err_and c.from_residual.result c.from_residual.ensures.1 in
+    refused_over g.W.Wires.made g.W.Wires.sound (flat_map flow_of (jobs_of c.args.inside.now)) c.args.wires.now c.args.wires.now p.0 c.from_residual.result p.1
+
+pub returns-in_err-owners-clause-downs : goal.returns-in_err-owners-clause-downs
+returns-in_err-owners-clause-downs g c d attached h k =
+    sound_adds (λ x. IsUnsoundFor (g.W.Wires.sound c.args.wires.now) (g.W.Wires.made c.args.wires.now) (flat_map flow_of (jobs_of c.args.inside.now)) x) d h c.args.self.now (nothing_added d attached h c.args.self.now k)
+
+pub returns-in_err-stop-clause-over : goal.returns-in_err-stop-clause-over
+returns-in_err-stop-clause-over g c =
+    let p = err_from_is_err_and c.from_residual-in_err-stop.result c.from_residual-in_err-stop.ensures.1 in
+    refused_over g.W.Wires.made g.W.Wires.sound (flat_map flow_of (jobs_of c.args.inside.now)) c.args.wires.now c.job.new.wires p.0 c.from_residual-in_err-stop.result p.1
+
+pub returns-in_err-stop-clause-downs : goal.returns-in_err-stop-clause-downs
+returns-in_err-stop-clause-downs g c d attached h k =
+    let inside = c.args.inside.now in
+    let os = owners_of inside in
+    let i = c.loop-owner.owner-index in
+    let l = c.loop-owner.invariant in
+    let same = c.as_slice-owner-items.ensures ∙ c.in_ok-owners.ensures in
+    let o = get_or c.as_slice-owner-items.result.now i (owner.Client 0) in
+    let lt : i < length os = subst (λ (xs : List Owner). i < length xs) same c.loop-owner-test.true in
+    let is : o ≡ get_or os i (owner.Client 0) = ap (λ (xs : List Owner). get_or xs i (owner.Client 0)) same in
+    let made = g.W.Wires.made in
+    let sound = g.W.Wires.sound in
+    let first = l.given d attached h k in
+    downs_next (sound c.args.wires.now) (sound c.loop-owner.wires) (made c.args.wires.now) (made c.loop-owner.wires) (flat_map flow_of (map (job_of inside) (take i os))) (flow_of (job_of inside o)) (flat_map flow_of (map (job_of inside) (drop (i + 1) os))) (flat_map flow_of (jobs_of inside)) l.wires.same_sound (flows_split (jobs_of inside) (map (job_of inside) (take i os)) (job_of inside o) (map (job_of inside) (drop (i + 1) os)) (map_split (job_of inside) os i o (owner.Client 0) lt is)) l.made d attached h first.0 c.loop-owner.self c.job.new.self first.1 (l.downs d attached h k) (c.job.ensures.downs d attached (first.0 ++ h) first.1)
+
+pub returns-clause-over : goal.returns-clause-over
+returns-clause-over g c =
+    let past = subst (λ (os : List Owner). length os ≤ c.loop-owner.owner-index) (c.as_slice-owner-items.ensures ∙ c.in_ok-owners.ensures) c.loop-owner-test.false in
+    record {
+      each_made = λ went. subst (λ (os : List Owner). g.W.Wires.made c.loop-owner.wires ≡ g.W.Wires.made c.args.wires.now + length (flat_map flow_of (map (job_of c.args.inside.now) os))) (take_all c.loop-owner.owner-index (owners_of c.args.inside.now) past) c.loop-owner.invariant.made;
+      lie = tt;
+    }
+
+pub returns-clause-downs : goal.returns-clause-downs
+returns-clause-downs g c d attached h k =
+    let past = subst (λ (os : List Owner). length os ≤ c.loop-owner.owner-index) (c.as_slice-owner-items.ensures ∙ c.in_ok-owners.ensures) c.loop-owner-test.false in
+    subst (λ (os : List Owner). AddsDownsOf (λ x. IsUnsoundFor (g.W.Wires.sound c.args.wires.now) (g.W.Wires.made c.args.wires.now) (flat_map flow_of (map (job_of c.args.inside.now) os)) x) d h c.loop-owner.self)
+    (take_all c.loop-owner.owner-index (owners_of c.args.inside.now) past) (c.loop-owner.invariant.downs d attached h k)
