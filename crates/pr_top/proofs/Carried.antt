@@ -134,11 +134,11 @@ module _ (s : Script) (c : Numbered) (cs : List Numbered) (h : List NodeEntry) (
     gave_alone new tells gave carries = λ first sofar.
         (new ++ h, tells, carried_more s (c ∷ cs) cs k.attached k.last h new unmet (Alone c) first before now k.given (step_alone c cs alone_now).0 gave carries sofar)
 
-    pub alone_carries : (sound : ℕ → Bool) (stop : Result Stop NoMemory) (r : Result (Unit {0}) Halt) → StepsSo ByTime sound (line_of c.1) d k.attached h f stop
+    pub alone_carries : (P : ℕ → Type 0) (stop : Result Stop NoMemory) (r : Result (Unit {0}) Halt) → StepsSo ByTime P (line_of c.1) d k.attached h f stop
         → CommandCarries c.1 before now d k.attached h f stop → IsWent stop r → r ≡ Ok tt → StepCarries s (c ∷ cs) h f before now (Ok 0)
-    alone_carries sound stop r ends carries is done =
+    alone_carries P stop r ends carries is done =
         let went : stop ≡ Ok stops.Went = went_is stop (subst (λ (x : Result (Unit {0}) Halt). IsWent stop x) done is) in
-        let all = subst (λ (x : Result Stop NoMemory). StepsSo ByTime sound (line_of c.1) d k.attached h f x) went ends in
+        let all = subst (λ (x : Result Stop NoMemory). StepsSo ByTime P (line_of c.1) d k.attached h f x) went ends in
         gave_alone all.0 (running_tells d (attached_after (line_of c.1) k.attached) (all.0 ++ h) f all.1) all.2
         (command_carries c.1 before now d k.attached h all.0 f all.1 (subst (λ (x : Result Stop NoMemory). CommandCarries c.1 before now d k.attached h f x) went carries))
 
@@ -152,11 +152,11 @@ module _ (s : Script) (c : Numbered) (cs : List Numbered) (h : List NodeEntry) (
   -- ---- a phase
 
   module _ (phase_now : is_phase c.1 ≡ true) (n : ℕ) (at : n ≡ position_or_len (λ (x : Numbered). is_end x.1) cs) where
-    pub phase_carries : (sound : ℕ → Bool) (f : Engine) (before now : Told) (stop : Result Stop NoMemory) (r : Result (Unit {0}) Halt) → StepsSo ByTime sound (Phase (jobs_of (take n cs))) d k.attached h f stop
+    pub phase_carries : (P : ℕ → Type 0) (f : Engine) (before now : Told) (stop : Result Stop NoMemory) (r : Result (Unit {0}) Halt) → StepsSo ByTime P (Phase (jobs_of (take n cs))) d k.attached h f stop
         → PhaseCarries (λ (x : Declared) (g : List NodeEntry). KeepsRecords x g f) d h (take n cs) (held_of f) before now stop → IsWent stop r → r ≡ Ok tt → StepCarries s (c ∷ cs) h f before now (Ok (n + 1))
-    phase_carries sound f before now stop r ends carries is done =
+    phase_carries P f before now stop r ends carries is done =
         let went : stop ≡ Ok stops.Went = went_is stop (subst (λ (x : Result (Unit {0}) Halt). IsWent stop x) done is) in
-        let all = subst (λ (x : Result Stop NoMemory). StepsSo ByTime sound (Phase (jobs_of (take n cs))) d k.attached h f x) went ends in
+        let all = subst (λ (x : Result Stop NoMemory). StepsSo ByTime P (Phase (jobs_of (take n cs))) d k.attached h f x) went ends in
         let (other, represents, carried) = subst (λ (x : Result Stop NoMemory). PhaseCarries (λ (x : Declared) (g : List NodeEntry). KeepsRecords x g f) d h (take n cs) (held_of f) before now x) went carries in
         let tells = running_tells d k.attached (all.0 ++ h) f all.1 in
         let same : all.0 ≡ other = append_cancel_right all.0 other h (tells_story d (all.0 ++ h) f tells ∙ sym (tells_story d (other ++ h) f (tells_so d h other f represents))) in

@@ -16,8 +16,8 @@ use Rattle.pr_story.specs.declared.entry.Entry.{Entry}
 use Rattle.pr_story.specs.History.{NodeEntry}
 use Rattle.pr_text.specs.Histories.{joined}
 use Rattle.pr_story.specs.Scripts.{JobAfterJob}
-use Rattle.pr_sim.specs.Making.{declared_of}
-use Rattle.pr_top.specs.Downs.{HasTrueDowns, TellsTrueDowns}
+use Rattle.pr_flow.proofs.Downs.{none_unsound}
+use Rattle.pr_top.specs.Downs.{flows_in, HasTrueDowns, TellsTrueDowns}
 use Rattle.pr_top.specs.Runs.{all_sound}
 use Rattle.pr_top.specs.Kept.{IsStoppedIn, KeepsOn, KeepsShort, placed}
 use Rattle.pr_top.specs.KeptProgress.{HasHalted, HasKeptAll, HasKeptFrom, IsHalted, WritesHalted, break_of}
@@ -89,7 +89,7 @@ module _ {D : Type 0} (state : D → State) (images : D → List ℕ → Type 0)
     all_kept more = keeps_then state images moment images_since old mid now (placed (reverse h)) (placed (reverse (new ++ h))) (length h) (length (new ++ h)) (placed_front new h) before more
 
     -- an entry was not kept
-    pub not_kept : (failed : Type 0) (e f : Engine) (unmet line : Option ℕ) (told : ℕ) (rest : List Numbered) (a b : Option (List ℕ)) (broke : Break) → HasCome JobAfterJob s rest h e unmet → HasTrueDowns all_sound h → IsHistoryOver all_sound s (new ++ h) → told ≡ length h
+    pub not_kept : (failed : Type 0) (e f : Engine) (unmet line : Option ℕ) (told : ℕ) (rest : List Numbered) (a b : Option (List ℕ)) (broke : Break) → HasCome JobAfterJob s rest h e unmet → HasTrueDowns all_sound s h → IsHistoryOver all_sound s (new ++ h) → told ≡ length h
         → ((new ≡ []) ⊎ IsMadeBy JobAfterJob s h new line) → Appends a b (entry_lines s.decls.list (reverse h))
         → HasKeptFrom state images moment images_since mid now (placed (reverse (new ++ h))) told line (Err broke)
         → HasKeptAll state images moment images_since old now s failed a b f line (Err broke)
@@ -138,7 +138,7 @@ module _ {D : Type 0} (state : D → State) (images : D → List ℕ → Type 0)
         by (faults.Damaged at) fine k = absurd fine
 
     -- a line was not written
-    pub not_told : (failed : Type 0) (f : Engine) (line : Option ℕ) (told : ℕ) (a b c : Option (List ℕ)) (halt : Halt) → HasStopped JobAfterJob all_sound s (new ++ h) f halts.NoMemory → TellsTrueDowns all_sound (declared_of s.decls.list) f → told ≡ length h
+    pub not_told : (failed : Type 0) (f : Engine) (line : Option ℕ) (told : ℕ) (a b c : Option (List ℕ)) (halt : Halt) → HasStopped JobAfterJob all_sound s (new ++ h) f halts.NoMemory → TellsTrueDowns all_sound s f → told ≡ length h
         → Appends a b (entry_lines s.decls.list (reverse h)) → KeepsOn state images moment images_since mid now (placed (reverse (new ++ h))) (length h) (length (new ++ h))
         → Writes {X = ℕ} (entry_lines s.decls.list (drop told (reverse (new ++ h)))) failed b c (Err halt) → HasKeptAll state images moment images_since old now s failed a c f line (Err (breaks.Halted halt))
     not_told failed f line told a b c halt stopped downs is written more cut = (new ++ h, halted halt all, writes halt all)
@@ -163,7 +163,7 @@ module _ {D : Type 0} (state : D → State) (images : D → List ℕ → Type 0)
         writes (halts.Lied stream number sent got) w = absurd w
 
     -- the step itself halted, and its entries were kept and told
-    pub step_halted : (failed : Type 0) (f : Engine) (line : Option ℕ) (told : ℕ) (a b c : Option (List ℕ)) (halt : Halt) → HasStopped JobAfterJob all_sound s (new ++ h) f halt → TellsTrueDowns all_sound (declared_of s.decls.list) f → told ≡ length h
+    pub step_halted : (failed : Type 0) (f : Engine) (line : Option ℕ) (told : ℕ) (a b c : Option (List ℕ)) (halt : Halt) → HasStopped JobAfterJob all_sound s (new ++ h) f halt → TellsTrueDowns all_sound s f → told ≡ length h
         → Appends a b (entry_lines s.decls.list (reverse h)) → KeepsOn state images moment images_since mid now (placed (reverse (new ++ h))) (length h) (length (new ++ h))
         → Appends b c (entry_lines s.decls.list (drop told (reverse (new ++ h)))) → HasKeptAll state images moment images_since old now s failed a c f line (Err (breaks.Halted halt))
     step_halted failed f line told a b c halt stopped downs is written more rest = (
@@ -182,13 +182,13 @@ module _ {D : Type 0} (state : D → State) (images : D → List ℕ → Type 0)
         cause halts.NoMemory k = tt
         cause halts.WriteFault k = absurd k
         cause (halts.Worn at) k = (k.0, k.1)
-        cause (halts.Lied stream number sent got) k = absurd (k.0 (λ i. refl))
+        cause (halts.Lied stream number sent got) k = absurd (none_unsound all_sound (λ i. refl) 0 (flows_in s.commands) stream k.0)
 
         writes : (x : Halt) → IsHalt JobAfterJob all_sound s (new ++ h) x → WritesHalted failed lines a c x
         writes halts.NoMemory k = (length lines, subst (λ (t : List ℕ). Appends a c t) (sym (take_all (length lines) lines (omega arith))) all)
         writes halts.WriteFault k = absurd k
         writes (halts.Worn at) k = all
-        writes (halts.Lied stream number sent got) k = absurd (k.0 (λ i. refl))
+        writes (halts.Lied stream number sent got) k = absurd (none_unsound all_sound (λ i. refl) 0 (flows_in s.commands) stream k.0)
 
   -- all that a step made was kept and told
   pub next_kept : (s : Script) (at told n m : ℕ) (e f : Engine) (unmet now : Option ℕ) (a b c : Option (List ℕ)) (u : IsUnderWay JobAfterJob all_sound s at told e unmet a b) (new : List NodeEntry) (old mid next : Keep D)

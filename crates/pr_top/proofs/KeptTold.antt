@@ -63,7 +63,7 @@ module _ {D : Type 0} (state : D → State) (images : D → List ℕ → Type 0)
   -- ---- the head lines
 
   nothing_halted : (s : Script) (keep : Keep D) (halt : Halt) → IsHalted [] halt → KeepsOn state images moment images_since keep keep [] 0 0 → HasHalted state images moment images_since keep keep s [] halt
-  nothing_halted s keep halt cause none = record { is = (record { valid = tt; declared = tt }, λ all. tt); begun = no_run JobAfterJob all_sound s; cause = cause; kept = inl none }
+  nothing_halted s keep halt cause none = record { is = (record { valid = tt; declared = tt }, tt); begun = no_run JobAfterJob all_sound s; cause = cause; kept = inl none }
 
   pub heads_broke : (failed : Type 0) (s : Script) (a b : Option (List ℕ)) (halt : Halt) (keep : Keep D) → KeepsOn state images moment images_since keep keep [] 0 0
       → Writes {X = ℕ} (heads_text s.decls.list) failed a b (Err halt) → HasKeptTold state images moment images_since keep keep s failed a b (Err (breaks.Halted halt))
@@ -87,7 +87,7 @@ module _ {D : Type 0} (state : D → State) (images : D → List ℕ → Type 0)
 
   -- ---- the `ok` line
 
-  module _ (s : Script) (h : List NodeEntry) (e : Engine) (unmet : Option ℕ) (k : HasCome JobAfterJob s [] h e unmet) (downs : HasTrueDowns all_sound h) (a b c d : Option (List ℕ)) (p : Appends a b (heads_text s.decls.list)) (q : Appends b c (entry_lines s.decls.list (reverse h)))
+  module _ (s : Script) (h : List NodeEntry) (e : Engine) (unmet : Option ℕ) (k : HasCome JobAfterJob s [] h e unmet) (downs : HasTrueDowns all_sound s h) (a b c d : Option (List ℕ)) (p : Appends a b (heads_text s.decls.list)) (q : Appends b c (entry_lines s.decls.list (reverse h)))
       (old new : Keep D) (kept : KeepsOn state images moment images_since old new (placed (reverse h)) 0 (length h)) (failed : Type 0) where
     told_all : Appends a c (told_text s h)
     told_all = subst (λ (t : List ℕ). Appends a c t) (told_is s h) (appends_then a b c (heads_text s.decls.list) (entry_lines s.decls.list (reverse h)) p q)
@@ -223,7 +223,7 @@ module _ {D : Type 0} (state : D → State) (images : D → List ℕ → Type 0)
           h = [];
           headline = headline (plan_of s.decls.list) (counts_of s.decls.list) [] (record { valid = tt; declared = tt });
           ends = no_run JobAfterJob all_sound s;
-          downs = λ all. tt;
+          downs = tt;
           text = take 0 (told_text s []) ++ all.0;
           written = (all.0, all.1, (0, refl));
           told = all.2;

@@ -16,6 +16,8 @@ use Rattle.pr_text.specs.Histories.{transcript_text}
 use Rattle.pr_text.specs.Numbers.{counts_of}
 use Rattle.pr_text.specs.Transcripts.{lines_text, plan_of}
 use Rattle.pr_story.specs.Scripts.{JobAfterJob}
+use Rattle.pr_top.specs.Downs.{flows_in}
+use Rattle.pr_flow.proofs.Downs.{none_unsound}
 use Rattle.pr_top.specs.Progress.{Writes, entry_lines}
 use Rattle.pr_top.specs.Pulled.{HasStoppedShort, IsClosed, IsLastLine, IsPulled, IsPulledText, bytes_cause, cause_of, entries_at}
 use Rattle.pr_top.specs.Runs.{all_sound, IsLine, WritesLine, told_text}
@@ -70,7 +72,7 @@ short_so failed later now s halts.WriteFault result a b c f k (h, (is, begun, (b
     subst (λ (r : Status). HasStoppedShort r s now a c) (sym ended)
     (subst (λ (o : Option (List ℕ)). HasStoppedShort status.WriteFault s now a o) (sym same) (short_fault now s a b (h, (is, begun, (f bad, (n, told))))))
 short_so failed later now s (halts.Worn at) result a b c f k stopped (ended, line) = subst (λ (r : Status). HasStoppedShort r s now a c) (sym ended) (short_worn later now failed s at a b c k stopped line)
-short_so failed later now s (halts.Lied stream number sent got) result a b c f k (h, (is, begun, (cause, told))) ended = absurd (cause.0 (λ i. refl))
+short_so failed later now s (halts.Lied stream number sent got) result a b c f k (h, (is, begun, (cause, told))) ended = absurd (none_unsound all_sound (λ i. refl) 0 (flows_in s.commands) stream cause.0)
 short_so failed later now s halts.NoMemory result a b c f k stopped (ended, line) = subst (λ (r : Status). HasStoppedShort r s now a c) (sym ended) (short_memory later now failed s a b c k stopped line)
 
 -- ---- entries of a node

@@ -4,6 +4,8 @@ use Rattle.std.proofs.lemmas.List.{append-nil, append_cancel_left, reverse-appen
 use Rattle.std.specs.Io.KnownBytes.{Appends}
 use Rattle.pr_ports.specs.Faults.{HasRisen}
 use Rattle.pr_flow.specs.Sound.{AreSoundEvents}
+use Rattle.pr_flow.proofs.Downs.{downs_sound, none_unsound}
+use Rattle.pr_top.specs.Downs.{HasTrueDowns, IsUnsoundIn, flows_in}
 use Rattle.pr_script.specs.declared.command.Command.{Command}
 use Rattle.pr_script.specs.declared.command.Command.TheVariants as commands
 use Rattle.pr_script.specs.declared.decl.Decl.{Decl}
@@ -202,6 +204,10 @@ writes a b status.Ok s h text to_end written told = subst (λ (z : List ℕ). Ap
 writes a b (status.Unmet line) s h text to_end written told = (written.0, written.1, subst (λ (z : List ℕ). Appends a.text b.text z) written.2 told)
 writes a b _ s h text to_end written told = absurd to_end
 
+-- over sound connections no entry says that a wire failed or ended
+all_true : (s : Script) (h : List NodeEntry) → HasTrueDowns all_sound s h → AreSoundEvents h
+all_true s h downs = downs_sound (λ x. IsUnsoundIn all_sound s x) (λ x at. none_unsound all_sound (λ k. refl) 0 (flows_in s.commands) x at) h downs
+
 means : (bytes : List ℕ) (left now : Option (List ℕ)) (s : Script) → left ≡ Some bytes → HasScript left now s → Means bytes (Ok s)
 means bytes left now s is has =
     let known : IfSome (Some bytes) (λ z. z ≡ has.bytes) = subst (λ (o : Option (List ℕ)). IfSome o (λ z. z ≡ has.bytes)) is has.read.all in
@@ -215,8 +221,8 @@ module _ (a b c d : Ports) (one other : Status) (s : Script) (e : IsToEnd one) (
     (q : HasRun JobAfterJob all_sound other s (HasRisen c.write_faults d.write_faults) c.text d.text) where
   repeated : (one ≡ other) × ((text : List ℕ) × WritesTranscript a b one text × WritesTranscript c d one text)
   repeated =
-      let sound : AreSoundEvents p.h = p.downs (λ k. refl) in
-      let other_sound : AreSoundEvents q.h = q.downs (λ k. refl) in
+      let sound : AreSoundEvents p.h = all_true s p.h p.downs in
+      let other_sound : AreSoundEvents q.h = all_true s q.h q.downs in
       let run : IsRunOf JobAfterJob s p.h (unmet_of one) = run_of one s p.h e p.ends in
       let other_run : IsRunOf JobAfterJob s q.h (unmet_of other) = run_of other s q.h f q.ends in
       let unmet : unmet_of one ≡ unmet_of other = same_unmet s p.h q.h (unmet_of one) (unmet_of other) p.headline.history.valid q.headline.history.valid sound other_sound run other_run in

@@ -18,7 +18,7 @@ use Rattle.pr_text.specs.Steps.{lines_of}
 use Rattle.pr_text.specs.Transcripts.{lines_text, plan_of}
 use Rattle.pr_text.specs.Numbers.{counts_of}
 use Rattle.pr_text.proofs.Runs.{runs_give}
-use Rattle.pr_top.specs.Downs.{AddsTrueDowns, HasTrueDowns, TellsTrueDowns}
+use Rattle.pr_top.specs.Downs.{AddsTrueDowns, HasTrueDowns, IsWithin, TellsTrueDowns}
 use Rattle.pr_top.specs.Progress.{HasCome, HasRunAll, HasStepped, HasStopped, HasTold, IsExpected, IsHistoryOfDecls, IsHistoryOver, IsMadeBy, Writes, entry_lines}
 use Rattle.pr_top.specs.Runs.{HasRunTo, IsLine, WritesLine, told_text}
 use Rattle.pr_top.specs.declared.running.Expected.{Expected}
@@ -29,7 +29,7 @@ use Rattle.pr_top.specs.declared.stepping.Halt.TheVariants as halts
 use Rattle.pr_top.specs.declared.stepping.Run.{Run}
 use Rattle.pr_top.specs.Unended.{HasBegunWell, HasRunUnended, HasRunUnendedTo, TellsEnd, TellsHalt}
 use Rattle.pr_top.proofs.Coming.{begun, ended}
-use Rattle.pr_top.proofs.Downs.{downs_of, next_downs}
+use Rattle.pr_top.proofs.Downs.{downs_of, next_downs, within_over}
 use Rattle.pr_top.proofs.Lines.{lines_split}
 use Rattle.pr_top.proofs.Promised.{headline}
 use Rattle.pr_top.proofs.Written.{appends_then, front_of, lines_are, writes_then}
@@ -50,9 +50,9 @@ line_then failed now a b c xs line f p (last, is, q) = (last, by is, appends_the
 
 -- a step over connections of which the same are sound as when the run began
 pub stepped_so : (order : Order) (now was : ℕ → Bool) → now ≡ was → (s : Script) (c : Numbered) (cs : List Numbered) (e : Engine) (u : Option ℕ) (f : Engine) (v : Option ℕ) (r : Result ℕ Halt)
-    → ((t : Script) (h : List NodeEntry) → HasCome order t (c ∷ cs) h e u → HasStepped order now t (c ∷ cs) h f v r)
+    → ((h : List NodeEntry) → HasCome order s (c ∷ cs) h e u → HasStepped order now s (c ∷ cs) h f v r)
     → (h : List NodeEntry) → HasCome order s (c ∷ cs) h e u → HasStepped order was s (c ∷ cs) h f v r
-stepped_so order now was same s c cs e u f v r stepped h come = subst (λ (sound : ℕ → Bool). HasStepped order sound s (c ∷ cs) h f v r) same (stepped s h come)
+stepped_so order now was same s c cs e u f v r stepped h come = subst (λ (sound : ℕ → Bool). HasStepped order sound s (c ∷ cs) h f v r) same (stepped h come)
 
 -- the command at some place of the list, and those behind it
 pub rest_at : (all list : List Numbered) (first : Numbered) (at : ℕ) → list ≡ all → at < length list → first ≡ get_or list at first → drop at all ≡ first ∷ take (length list - (at + 1)) (drop (at + 1) list)
@@ -65,6 +65,22 @@ pub heads_whole : (failed : Type 0) (s : Script) (a b : Option (List ℕ)) → A
 heads_whole failed s a b p =
     let text : List ℕ = heads_text s.decls.list in
     (length text, subst (λ (t : List ℕ). Appends a b t) (sym (take_all (length text) text (omega arith))) p)
+
+-- over which connections the commands go that are left
+module _ (sound now : ℕ → Bool) (made : ℕ) (s : Script) (list : List Numbered) (first : Numbered) (at : ℕ) where
+  pub within_turn : list ≡ s.commands → at < length list → first ≡ get_or list at first → now ≡ sound → IsWithin sound made (drop at s.commands) s
+      → IsWithin now made (first ∷ take (length list - (at + 1)) (drop (at + 1) list)) s
+  within_turn same lt is over within =
+      within_over now sound made (first ∷ take (length list - (at + 1)) (drop (at + 1) list)) s over (subst (λ (xs : List Numbered). IsWithin sound made xs s) (rest_at s.commands list first at same lt is) within)
+
+  -- and behind the step
+  pub within_more : (n : ℕ) → list ≡ s.commands → at < length list → first ≡ get_or list at first → now ≡ sound → (r : Result ℕ Halt) → r ≡ Ok n
+      → IfOk r (λ m. IsWithin now made (drop (m + 1) (first ∷ take (length list - (at + 1)) (drop (at + 1) list))) s) → IsWithin sound made (drop (at + (n + 1)) s.commands) s
+  within_more n same lt is over r done within =
+      let here : IsWithin now made (drop (n + 1) (first ∷ take (length list - (at + 1)) (drop (at + 1) list))) s =
+      subst (λ (x : Result ℕ Halt). IfOk x (λ m. IsWithin now made (drop (m + 1) (first ∷ take (length list - (at + 1)) (drop (at + 1) list))) s)) done within in
+      let left : IsWithin now made (drop (n + 1) (drop at s.commands)) s = subst (λ (xs : List Numbered). IsWithin now made (drop (n + 1) xs) s) (sym (rest_at s.commands list first at same lt is)) here in
+      within_over sound now made (drop (at + (n + 1)) s.commands) s (sym over) (subst (λ (xs : List Numbered). IsWithin now made xs s) (drop-drop (n + 1) at s.commands ∙ ap (λ (i : ℕ). drop i s.commands) (omega arith)) left)
 
 module _ (order : Order) (sound : ℕ → Bool) where
   -- ---- one step
@@ -139,8 +155,8 @@ module _ (order : Order) (sound : ℕ → Bool) where
   pub history_of : (s : Script) (h : List NodeEntry) (e : Engine) (halt : Halt) → HasStopped order sound s h e halt → IsHistoryOfDecls s h
   history_of s h e halt k = record { valid = k.tells.told.valid; declared = k.tells.speaks }
 
-  pub over_of : (s : Script) (h : List NodeEntry) (e : Engine) (halt : Halt) → HasStopped order sound s h e halt → TellsTrueDowns sound (declared_of s.decls.list) e → IsHistoryOver sound s h
-  over_of s h e halt k downs = (history_of s h e halt k, downs_of sound (declared_of s.decls.list) h e k.tells downs)
+  pub over_of : (s : Script) (h : List NodeEntry) (e : Engine) (halt : Halt) → HasStopped order sound s h e halt → TellsTrueDowns sound s e → IsHistoryOver sound s h
+  over_of s h e halt k downs = (history_of s h e halt k, downs_of sound s h e k.tells downs)
 
   -- nothing was run
   pub no_run : (s : Script) → HasBegun order s []
@@ -150,10 +166,10 @@ module _ (order : Order) (sound : ℕ → Bool) where
   pub heads_cut : (X : Type 0) (failed : Type 0) (s : Script) (a b : Option (List ℕ)) (halt : Halt) → Writes {X = X} (heads_text s.decls.list) failed a b (Err halt) → HasRunUnended order sound s failed a b (Err halt)
   heads_cut X failed s a b halts.NoMemory (n, p) =
       let m = front_of n (heads_text s.decls.list) [] in
-      ([], ((record { valid = tt; declared = tt }, λ all. tt), no_run s, (m.0, subst (λ (t : List ℕ). Appends a b t) m.1 p)))
+      ([], ((record { valid = tt; declared = tt }, tt), no_run s, (m.0, subst (λ (t : List ℕ). Appends a b t) m.1 p)))
   heads_cut X failed s a b halts.WriteFault (bad, (n, p)) =
       let m = front_of n (heads_text s.decls.list) [] in
-      ([], ((record { valid = tt; declared = tt }, λ all. tt), no_run s, (bad, (m.0, subst (λ (t : List ℕ). Appends a b t) m.1 p))))
+      ([], ((record { valid = tt; declared = tt }, tt), no_run s, (bad, (m.0, subst (λ (t : List ℕ). Appends a b t) m.1 p))))
   heads_cut X failed s a b (halts.Worn at) p = absurd p
   heads_cut X failed s a b (halts.Lied stream number sent got) p = absurd p
 
@@ -168,7 +184,7 @@ module _ (order : Order) (sound : ℕ → Bool) where
   ends_well failed s a b (Err halt) told = tt
 
   pub run_cut : (failed now : Type 0) (s : Script) (e : Engine) (unmet : Option ℕ) (a b c : Option (List ℕ)) (halt : Halt) → (failed → now)
-      → Appends a b (heads_text s.decls.list) → TellsTrueDowns sound (declared_of s.decls.list) e → HasRunAll order sound s failed b c e unmet (Err halt) → HasRunUnended order sound s now a c (Err halt)
+      → Appends a b (heads_text s.decls.list) → TellsTrueDowns sound s e → HasRunAll order sound s failed b c e unmet (Err halt) → HasRunUnended order sound s now a c (Err halt)
   run_cut failed now s e unmet a b c (halts.Worn at) f p downs (h, stopped, q) =
       (h, (over_of s h e (halts.Worn at) stopped downs, stopped.begun, (stopped.cause, subst (λ (t : List ℕ). Appends a c t) (told_is s h) (appends_then a b c (heads_text s.decls.list) (entry_lines s.decls.list (reverse h)) p q))))
   run_cut failed now s e unmet a b c (halts.Lied stream number sent got) f p downs (h, stopped, q) =
@@ -188,7 +204,7 @@ module _ (order : Order) (sound : ℕ → Bool) where
       (h, (over_of s h e halts.NoMemory stopped downs, stopped.begun, all))
 
   -- all commands were run
-  pub run_whole : (failed : Type 0) (s : Script) (h : List NodeEntry) (run : Run) (a b c : Option (List ℕ)) → HasCome order s [] h run.engine run.unmet → HasTrueDowns sound h
+  pub run_whole : (failed : Type 0) (s : Script) (h : List NodeEntry) (run : Run) (a b c : Option (List ℕ)) → HasCome order s [] h run.engine run.unmet → HasTrueDowns sound s h
       → Appends a b (heads_text s.decls.list) → Appends b c (entry_lines s.decls.list (reverse h)) → HasRunUnendedTo order sound s h failed a c (Ok run)
   run_whole failed s h run a b c k downs p q =
       (k, downs, subst (λ (t : List ℕ). Appends a c t) (told_is s h) (appends_then a b c (heads_text s.decls.list) (entry_lines s.decls.list (reverse h)) p q))
@@ -201,7 +217,7 @@ module _ (order : Order) (sound : ℕ → Bool) where
   unended_stops failed s h a b halts.WriteFault (is, part, (bad, (n, told))) = (is, part, (take n (told_text s h), (bad, (n, inl refl)), told))
 
   -- the `ok` line follows
-  module _ (s : Script) (h : List NodeEntry) (e : Engine) (unmet : Option ℕ) (k : HasCome order s [] h e unmet) (downs : HasTrueDowns sound h) (a c : Option (List ℕ)) (told : Appends a c (told_text s h)) where
+  module _ (s : Script) (h : List NodeEntry) (e : Engine) (unmet : Option ℕ) (k : HasCome order s [] h e unmet) (downs : HasTrueDowns sound s h) (a c : Option (List ℕ)) (told : Appends a c (told_text s h)) where
     stopped : HasStopped order sound s h e halts.NoMemory
     stopped = stop_here s [] h e unmet k
 
@@ -378,8 +394,8 @@ module _ (order : Order) (sound : ℕ → Bool) where
         by (Err halt) (new, stopped, made) = (new, record { tells = stopped.tells; begun = stopped.begun; cause = tt }, inr made)
 
     -- each down so far has its true cause
-    pub downs_now : (now : ℕ → Bool) → now ≡ sound → ((h : List NodeEntry) → HasCome order s (first ∷ take (length list - (at + 1)) (drop (at + 1) list)) h e u → AddsTrueDowns now (declared_of s.decls.list) h f)
-        → TellsTrueDowns sound (declared_of s.decls.list) e → TellsTrueDowns sound (declared_of s.decls.list) f
+    pub downs_now : (now : ℕ → Bool) → now ≡ sound → ((h : List NodeEntry) → HasCome order s (first ∷ take (length list - (at + 1)) (drop (at + 1) list)) h e u → AddsTrueDowns now s h f)
+        → TellsTrueDowns sound s e → TellsTrueDowns sound s f
     downs_now now over adds sofar = next_downs order s sound now at (first ∷ take (length list - (at + 1)) (drop (at + 1) list)) w.h e f u over w.come rest_is adds sofar
 
     pub halted_now : (halt : Halt) → r ≡ Err halt → (new : List NodeEntry) × HasStopped order sound s (new ++ w.h) f halt

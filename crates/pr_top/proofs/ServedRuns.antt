@@ -13,6 +13,8 @@ use Rattle.pr_story.specs.Scripts.{JobAfterJob}
 use Rattle.pr_text.specs.Histories.{HasBegun, IsHistoryOf}
 use Rattle.pr_text.specs.Numbers.{counts_of}
 use Rattle.pr_text.specs.Transcripts.{plan_of}
+use Rattle.pr_top.specs.Downs.{flows_in}
+use Rattle.pr_flow.proofs.Downs.{none_unsound}
 use Rattle.pr_top.specs.Runs.{all_sound}
 use Rattle.pr_top.specs.Served.{HasLeft, HasServed, IsStop, Serves, node_after, server_at, status_of, stop_of}
 use Rattle.pr_top.specs.Progress.{IsHalt}
@@ -102,6 +104,6 @@ asks_stopped s n left from out left_now now halt result (h, is, begun, cause) en
   where
     by : (x : Halt) → IsHalt JobAfterJob all_sound s h x → IsStop (stop_of x) h
     by (halts.Worn at) cause = (cause.0, cause.1)
-    by (halts.Lied stream number sent got) cause = absurd (cause.0 (λ i. refl))
+    by (halts.Lied stream number sent got) cause = absurd (none_unsound all_sound (λ i. refl) 0 (flows_in s.commands) stream cause.0)
     by halts.NoMemory cause = tt
     by halts.WriteFault cause = absurd cause

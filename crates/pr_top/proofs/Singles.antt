@@ -8,7 +8,7 @@ use Rattle.pr_flow.specs.declared.stop.Stop.TheVariants as stops
 use Rattle.pr_stamps.specs.declared.no_memory.NoMemory.{NoMemory}
 use Rattle.pr_script.specs.declared.command.Command.{Command}
 use Rattle.pr_script.specs.declared.command.Command.TheVariants as commands
-use Rattle.pr_flow.specs.Lies.{IsNoLie}
+use Rattle.pr_flow.specs.Downs.{IsLieAt}
 use Rattle.pr_sim.specs.Commands.{StepEnds, attached_of}
 use Rattle.pr_sim.specs.declared.engine.Engine.{Engine}
 use Rattle.pr_story.specs.Counts.{Declared}
@@ -16,7 +16,6 @@ use Rattle.pr_story.specs.History.{NodeEntry}
 use Rattle.pr_story.specs.Phases.{IsPhaseAs, LineBeginsAs}
 use Rattle.pr_story.specs.Scripts.{ByTime, Detach, Expect, Flow, IsPhase, Job, JobAfterJob, JobBegins, JobEntry, JobGives, Line, LineBegins, LineGives, Order, Phase, Precedes, Settle, Single}
 use Rattle.pr_text.specs.Steps.{line_of}
-use Rattle.pr_top.specs.Runs.{IsUnsound}
 use Rattle.pr_top.specs.Stopping.{IsCutOff, StepsSo}
 
 -- the line has no job
@@ -89,22 +88,22 @@ cut_so ByTime streams line h new stop single first begins cause = record {
 
 -- ---- a command
 
-pub single_steps : (order : Order) (sound : ℕ → Bool) (c : Command) (d : Declared) (attached : ℕ → Bool) (h : List NodeEntry) (f : Engine) (stop : Result Stop NoMemory)
-    → (¬ IsNoLie stop → IsUnsound sound) → StepEnds (line_of c) d attached h f stop → StepsSo order sound (line_of c) d attached h f stop
-single_steps order sound c d attached h f (Ok stops.Went) lies (new, running, gives) =
+pub single_steps : (order : Order) (P : ℕ → Type 0) (c : Command) (d : Declared) (attached : ℕ → Bool) (h : List NodeEntry) (f : Engine) (stop : Result Stop NoMemory)
+    → IsLieAt P stop → StepEnds (line_of c) d attached h f stop → StepsSo order P (line_of c) d attached h f stop
+single_steps order P c d attached h f (Ok stops.Went) lied (new, running, gives) =
     (new, running, gives_so order (attached_of d attached) (line_of c) (reverse new) (lines_single c) gives)
-single_steps order sound c d attached h f (Ok (stops.Worn at)) lies (new, tells, begins, cause) =
+single_steps order P c d attached h f (Ok (stops.Worn at)) lied (new, tells, begins, cause) =
     (new, tells, cut_so order (attached_of d attached) (line_of c) h new (Ok (stops.Worn at)) (lines_single c) refl begins cause)
-single_steps order sound c d attached h f (Ok (stops.Lied stream number sent got)) lies (new, tells, begins, lie) =
-    (lies (λ none. none), (new, tells, cut_so order (attached_of d attached) (line_of c) h new (Ok (stops.Lied stream number sent got)) (lines_single c) refl begins lie))
-single_steps order sound c d attached h f (Err refused) lies (new, tells, begins, cause) =
+single_steps order P c d attached h f (Ok (stops.Lied stream number sent got)) lied (new, tells, begins, lie) =
+    (lied, (new, tells, cut_so order (attached_of d attached) (line_of c) h new (Ok (stops.Lied stream number sent got)) (lines_single c) refl begins lie))
+single_steps order P c d attached h f (Err refused) lied (new, tells, begins, cause) =
     (new, tells, begins_in order (attached_of d attached) (line_of c) (reverse new) (lines_single c) begins)
 
 -- ---- a phase in one thread
 
-pub in_order_steps : (sound : ℕ → Bool) (line : Line) (d : Declared) (attached : ℕ → Bool) (h : List NodeEntry) (f : Engine) (stop : Result Stop NoMemory)
-    → (¬ IsNoLie stop → IsUnsound sound) → StepEnds line d attached h f stop → StepsSo JobAfterJob sound line d attached h f stop
-in_order_steps sound line d attached h f (Ok stops.Went) lies ends = ends
-in_order_steps sound line d attached h f (Ok (stops.Worn at)) lies (new, tells, begins, cause) = (new, tells, (begins, cause))
-in_order_steps sound line d attached h f (Ok (stops.Lied stream number sent got)) lies (new, tells, begins, lie) = (lies (λ none. none), (new, tells, (begins, lie)))
-in_order_steps sound line d attached h f (Err refused) lies (new, tells, begins, cause) = (new, tells, begins)
+pub in_order_steps : (P : ℕ → Type 0) (line : Line) (d : Declared) (attached : ℕ → Bool) (h : List NodeEntry) (f : Engine) (stop : Result Stop NoMemory)
+    → IsLieAt P stop → StepEnds line d attached h f stop → StepsSo JobAfterJob P line d attached h f stop
+in_order_steps P line d attached h f (Ok stops.Went) lied ends = ends
+in_order_steps P line d attached h f (Ok (stops.Worn at)) lied (new, tells, begins, cause) = (new, tells, (begins, cause))
+in_order_steps P line d attached h f (Ok (stops.Lied stream number sent got)) lied (new, tells, begins, lie) = (lied, (new, tells, (begins, lie)))
+in_order_steps P line d attached h f (Err refused) lied (new, tells, begins, cause) = (new, tells, begins)

@@ -29,6 +29,7 @@ use Rattle.pr_story.specs.Phases.{LineBeginsAs}
 use Rattle.pr_story.specs.Scripts.{ByTime, JobAfterJob, LineBegins, LineGives, Order, Phase, attached_after}
 use Rattle.pr_text.specs.Histories.{HasBegunAs, first_of, is_met, is_met_by, is_unmet, streams_of, unmet_from}
 use Rattle.pr_text.specs.Steps.{jobs_of, line_of, step_line}
+use Rattle.pr_top.specs.Downs.{IsUnsoundIn}
 use Rattle.pr_top.specs.Progress.{HasCome, HasStepped, IsAlone, IsHalt, IsLast}
 use Rattle.pr_top.specs.Runs.{StopsJobs}
 use Rattle.pr_top.specs.Stopping.{IsCutOff, IsReadyFor, IsWent, StepsSo}
@@ -115,7 +116,7 @@ module _ (order : Order) (sound : ℕ → Bool) where
                 (subst (λ (o : Order). LineBeginsAs (λ i. is_went (get_or cut.each i (Ok stops.Went))) o streams (step_line step) (reverse new)) (sym same) cut.begun));
           }
 
-      pub step_stops : (halt : Halt) (stop : Result Stop NoMemory) → IsWent stop (Err halt) → StepsSo order sound (step_line step) (declared_of s.decls.list) k.attached h f stop
+      pub step_stops : (halt : Halt) (stop : Result Stop NoMemory) → IsWent stop (Err halt) → StepsSo order (λ x. IsUnsoundIn sound s x) (step_line step) (declared_of s.decls.list) k.attached h f stop
           → HasStepped order sound s (c ∷ cs) h f unmet (Err halt)
       step_stops halt (Ok stops.Went) is so = absurd (cc)
       step_stops halt (Ok (stops.Worn at)) is (new, tells, cut) =
@@ -162,11 +163,11 @@ module _ (order : Order) (sound : ℕ → Bool) where
       })
 
       -- the command ran, or its line was cut off
-      pub alone_steps : (f : Engine) (stop : Result Stop NoMemory) (r : Result (Unit {0}) Halt) → IsAlone c.1 → StepsSo order sound (line_of c.1) (declared_of s.decls.list) k.attached h f stop → IsWent stop r
+      pub alone_steps : (f : Engine) (stop : Result Stop NoMemory) (r : Result (Unit {0}) Halt) → IsAlone c.1 → StepsSo order (λ x. IsUnsoundIn sound s x) (line_of c.1) (declared_of s.decls.list) k.attached h f stop → IsWent stop r
           → (done : r ≡ Ok tt) → HasStepped order sound s (c ∷ cs) h f unmet (Ok 0)
       alone_steps f stop r alone ends is done =
           let went : stop ≡ Ok stops.Went = went_is stop (subst (λ (x : Result (Unit {0}) Halt). IsWent stop x) done is) in
-          let all = subst (λ (x : Result Stop NoMemory). StepsSo order sound (line_of c.1) (declared_of s.decls.list) k.attached h f x) went ends in
+          let all = subst (λ (x : Result Stop NoMemory). StepsSo order (λ x. IsUnsoundIn sound s x) (line_of c.1) (declared_of s.decls.list) k.attached h f x) went ends in
           let long : length (c ∷ cs) ≡ length cs + 1 = omega arith in (
             omega arith,
             (
@@ -178,7 +179,7 @@ module _ (order : Order) (sound : ℕ → Bool) where
             ),
           )
 
-      pub alone_stops : (f : Engine) (stop : Result Stop NoMemory) (r : Result (Unit {0}) Halt) (halt : Halt) → StepsSo order sound (line_of c.1) (declared_of s.decls.list) k.attached h f stop → IsWent stop r
+      pub alone_stops : (f : Engine) (stop : Result Stop NoMemory) (r : Result (Unit {0}) Halt) (halt : Halt) → StepsSo order (λ x. IsUnsoundIn sound s x) (line_of c.1) (declared_of s.decls.list) k.attached h f stop → IsWent stop r
           → (done : r ≡ Err halt) → HasStepped order sound s (c ∷ cs) h f unmet (Err halt)
       alone_stops f stop r halt ends is done = step_stops (Alone c) cs f steps_alone halt stop (subst (λ (x : Result (Unit {0}) Halt). IsWent stop x) done is) ends
 
@@ -206,11 +207,11 @@ module _ (order : Order) (sound : ℕ → Bool) where
         good = good_phase.0;
       }
 
-      pub phase_steps : (f : Engine) (stop : Result Stop NoMemory) (r : Result (Unit {0}) Halt) → StepsSo order sound (Phase (jobs_of (take n cs))) (declared_of s.decls.list) k.attached h f stop → IsWent stop r
+      pub phase_steps : (f : Engine) (stop : Result Stop NoMemory) (r : Result (Unit {0}) Halt) → StepsSo order (λ x. IsUnsoundIn sound s x) (Phase (jobs_of (take n cs))) (declared_of s.decls.list) k.attached h f stop → IsWent stop r
           → r ≡ Ok tt → HasStepped order sound s (c ∷ cs) h f unmet (Ok (n + 1))
       phase_steps f stop r ends is done =
           let went : stop ≡ Ok stops.Went = went_is stop (subst (λ (x : Result (Unit {0}) Halt). IsWent stop x) done is) in
-          let all = subst (λ (x : Result Stop NoMemory). StepsSo order sound (Phase (jobs_of (take n cs))) (declared_of s.decls.list) k.attached h f x) went ends in
+          let all = subst (λ (x : Result Stop NoMemory). StepsSo order (λ x. IsUnsoundIn sound s x) (Phase (jobs_of (take n cs))) (declared_of s.decls.list) k.attached h f x) went ends in
           let two : n + 1 + 1 ≡ suc (n + 1) = omega arith in
           let within : n < length cs = phase_within in
           let long : length (c ∷ cs) ≡ length cs + 1 = omega arith in (
@@ -235,7 +236,7 @@ module _ (order : Order) (sound : ℕ → Bool) where
             ),
           )
 
-      pub phase_stops : (f : Engine) (stop : Result Stop NoMemory) (r : Result (Unit {0}) Halt) (halt : Halt) → StepsSo order sound (Phase (jobs_of (take n cs))) (declared_of s.decls.list) k.attached h f stop → IsWent stop r
+      pub phase_stops : (f : Engine) (stop : Result Stop NoMemory) (r : Result (Unit {0}) Halt) (halt : Halt) → StepsSo order (λ x. IsUnsoundIn sound s x) (Phase (jobs_of (take n cs))) (declared_of s.decls.list) k.attached h f stop → IsWent stop r
           → r ≡ Err halt → HasStepped order sound s (c ∷ cs) h f unmet (Err halt)
       phase_stops f stop r halt ends is done =
           step_stops (script.Phase (take n cs)) (drop (n + 1) cs) f steps_phase halt stop (subst (λ (x : Result (Unit {0}) Halt). IsWent stop x) done is) ends

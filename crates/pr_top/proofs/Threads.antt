@@ -22,7 +22,7 @@ use Rattle.pr_script.specs.Good.{IsGoodDecl, IsGoodJobLine, IsGoodPhase}
 use Rattle.pr_script.specs.Known.{has_number}
 use Rattle.pr_script.specs.Labels.{count_of, is_kind, labels_of}
 use Rattle.pr_script.specs.Steps.{Numbered, has_owner, owner_of, owners_of, with_owner}
-use Rattle.pr_flow.specs.Lies.{IsNoLie}
+use Rattle.pr_flow.specs.Downs.{IsLieAt}
 use Rattle.pr_sim.specs.Commands.{attached_of}
 use Rattle.pr_sim.specs.Holding.{KeepsRecords, held_of}
 use Rattle.pr_sim.specs.Running.{IsRunning, Tells}
@@ -38,7 +38,6 @@ use Rattle.pr_story.proofs.Phases.{marked_phases}
 use Rattle.pr_text.specs.Steps.{jobs_of}
 use Rattle.pr_text.specs.Transcripts.{no_decl, stream_of}
 use Rattle.pr_text.proofs.Apart.{phases_apart}
-use Rattle.pr_top.specs.Runs.{IsUnsound}
 use Rattle.pr_top.specs.Stopping.{IsReadyFor, StepsSo}
 
 -- ---- the jobs of a phase
@@ -207,16 +206,16 @@ module _ (d : Declared) (h new : List NodeEntry) (f : Engine) (r : RepresentsNod
     },
   )
 
-pub threads_step : (sound : ℕ → Bool) (inside : List Numbered) (d : Declared) (attached : ℕ → Bool) (h : List NodeEntry) (e f : Engine) (stop : Result Stop NoMemory) → IsRunning d attached h e
+pub threads_step : (P : ℕ → Type 0) (inside : List Numbered) (d : Declared) (attached : ℕ → Bool) (h : List NodeEntry) (e f : Engine) (stop : Result Stop NoMemory) → IsRunning d attached h e
     → LeavesPhase (λ (c : Declared) (g : List NodeEntry). KeepsRecords c g f) d h inside (held_of f) stop → SameAttached (held_of e) (held_of f) → (stop ≡ Ok stops.Went → AllWork (held_of f))
-    → (¬ IsNoLie stop → IsUnsound sound) → StepsSo ByTime sound (Phase (jobs_of inside)) d attached h f stop
-threads_step sound inside d attached h e f (Ok stops.Went) k (new, r, ends) same work lies =
+    → IsLieAt P stop → StepsSo ByTime P (Phase (jobs_of inside)) d attached h f stop
+threads_step P inside d attached h e f (Ok stops.Went) k (new, r, ends) same work lie =
     (new, goes_on d h new f r attached e k same (work refl), ends.whole refl)
-threads_step sound inside d attached h e f (Ok (stops.Worn at)) k (new, r, ends) same work lies =
+threads_step P inside d attached h e f (Ok (stops.Worn at)) k (new, r, ends) same work lie =
     (new, tells_so d h new f r, record { each = ends.each; first = ends.first; causes = ends.causes; begun = ends.begun })
-threads_step sound inside d attached h e f (Ok (stops.Lied stream number sent got)) k (new, r, ends) same work lies =
-    (lies (λ none. none), (new, tells_so d h new f r, record { each = ends.each; first = ends.first; causes = ends.causes; begun = ends.begun }))
-threads_step sound inside d attached h e f (Err refused) k leaves same work lies = elim leaves [
+threads_step P inside d attached h e f (Ok (stops.Lied stream number sent got)) k (new, r, ends) same work lie =
+    (lie, (new, tells_so d h new f r, record { each = ends.each; first = ends.first; causes = ends.causes; begun = ends.begun }))
+threads_step P inside d attached h e f (Err refused) k leaves same work lie = elim leaves [
   | inl some ↦ (some.0, tells_so d h some.0 f some.2, marked_phases.begun (λ i. is_went (get_or some.3.each i (Ok stops.Went))) ByTime (jobs_of inside) (reverse some.0) some.3.begun)
   | inr none ↦ ([], tells_so d h [] f none, nothing_begins.line ByTime (attached_of d attached) (Phase (jobs_of inside)))
 ]

@@ -124,7 +124,7 @@ IsHistoryOfDecls s h = IsHistory (plan_of s.decls.list) (counts_of s.decls.list)
 
 -- the same, over connections of which these are sound
 abbrev pub IsHistoryOver : (ℕ → Bool) → Script → List NodeEntry → Type 0
-IsHistoryOver sound s h = IsHistoryOfDecls s h × HasTrueDowns sound h
+IsHistoryOver sound s h = IsHistoryOfDecls s h × HasTrueDowns sound s h
 
 -- ---- what is written
 

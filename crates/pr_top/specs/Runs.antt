@@ -15,18 +15,14 @@ use Rattle.pr_text.specs.Heads.{heads_text}
 use Rattle.pr_text.specs.Histories.{HasBegun, HasBegunAs, IsHistoryOf, IsRunOf, transcript_text}
 use Rattle.pr_text.specs.Numbers.{counts_of}
 use Rattle.pr_text.specs.Transcripts.{lines_text, plan_of}
-use Rattle.pr_top.specs.Downs.{AreAllSound, HasTrueDowns}
+use Rattle.pr_top.specs.Downs.{HasTrueDowns, IsUnsoundIn}
 use Rattle.pr_top.specs.Headline.{Headline}
 use Rattle.pr_top.specs.declared.status.Status.{Status}
 use Rattle.pr_top.specs.declared.status.Status.TheVariants as status
 
 -- ---- the status of a run
 
--- some connection is not sound
-abbrev pub IsUnsound : (ℕ → Bool) → Type 0
-IsUnsound sound = AreAllSound sound → ⊥
-
--- each one is
+-- each connection is sound
 abbrev pub all_sound : ℕ → Bool
 all_sound k = true
 
@@ -43,14 +39,14 @@ abbrev pub StopsJobs : Order → Script → List NodeEntry → Result Stop NoMem
 StopsJobs JobAfterJob s h stop = Unit {0}
 StopsJobs ByTime s h stop = HasStoppedJobs s h stop
 
--- why the run ended at some place: behind that many entries a node is worn; or some connection is not sound, and for the
--- last message of the stream other bytes came than were put
+-- why the run ended at some place: behind that many entries a node is worn; or a flow of the stream has a connection that
+-- is not sound, and for the stream's last message other bytes came than were put
 abbrev pub IsWorn : Order → Script → List NodeEntry → ℕ → Type 0
 IsWorn order s h at = (at ≡ 4611686018427387903) × (4611686018427387903 ≤ length h) × StopsJobs order s h (Ok (stops.Worn at))
 
 abbrev pub IsLie : Order → (ℕ → Bool) → Script → List NodeEntry → ℕ → ℕ → List ℕ → List ℕ → Type 0
 IsLie order sound s h stream number sent got =
-    IsUnsound sound × IsLied h stream number sent got × StopsJobs order s h (Ok (stops.Lied stream number sent got))
+    IsUnsoundIn sound s stream × IsLied h stream number sent got × StopsJobs order s h (Ok (stops.Lied stream number sent got))
 
 -- what the status says of the history, with phases in this order: the whole script was run, with this line's expectation
 -- the first that was not met; or the run ended at some place
@@ -104,7 +100,7 @@ pub record HasRun (order : Order) (sound : ℕ → Bool) (result : Status) (s : 
   pub h : List NodeEntry
   pub headline : Headline (plan_of s.decls.list) (counts_of s.decls.list) h
   pub ends : IsEnd order sound result s h
-  pub downs : HasTrueDowns sound h
+  pub downs : HasTrueDowns sound s h
   pub text : List ℕ
   pub written : IsWritten order result failed s h text
   pub told : Appends before now text

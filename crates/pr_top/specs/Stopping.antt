@@ -17,7 +17,6 @@ use Rattle.pr_story.specs.Counts.{Declared}
 use Rattle.pr_story.specs.History.{NodeEntry}
 use Rattle.pr_story.specs.Phases.{LineBeginsAs}
 use Rattle.pr_story.specs.Scripts.{ByTime, JobAfterJob, Line, LineBegins, LineGives, Order, attached_after}
-use Rattle.pr_top.specs.Runs.{IsUnsound}
 use Rattle.pr_top.specs.declared.stepping.Halt.{Halt}
 use Rattle.pr_top.specs.declared.stepping.Halt.TheVariants as halts
 
@@ -48,15 +47,16 @@ IsCutOff ByTime streams line h new stop = HasStoppedBeside streams line h new st
 
 -- ---- a line that was run
 
--- after h the line gave its entries, with those of a phase in this order; or it was cut off
-abbrev pub StepsSo : Order → (ℕ → Bool) → Line → Declared → (ℕ → Bool) → List NodeEntry → Engine → Result Stop NoMemory → Type 0
-StepsSo order sound line d attached h e (Ok stops.Went) =
+-- after h the line gave its entries, with those of a phase in this order; or it was cut off, for a lie on one of these
+-- streams alone
+abbrev pub StepsSo : Order → (ℕ → Type 0) → Line → Declared → (ℕ → Bool) → List NodeEntry → Engine → Result Stop NoMemory → Type 0
+StepsSo order P line d attached h e (Ok stops.Went) =
     (new : List NodeEntry) × IsRunning d (attached_after line attached) (new ++ h) e × LineGives order (attached_of d attached) line (reverse new)
-StepsSo order sound line d attached h e (Ok (stops.Worn at)) =
+StepsSo order P line d attached h e (Ok (stops.Worn at)) =
     (new : List NodeEntry) × Tells d (new ++ h) e × IsCutOff order (attached_of d attached) line h new (Ok (stops.Worn at))
-StepsSo order sound line d attached h e (Ok (stops.Lied stream number sent got)) =
-    IsUnsound sound × ((new : List NodeEntry) × Tells d (new ++ h) e × IsCutOff order (attached_of d attached) line h new (Ok (stops.Lied stream number sent got)))
-StepsSo order sound line d attached h e (Err refused) =
+StepsSo order P line d attached h e (Ok (stops.Lied stream number sent got)) =
+    P stream × ((new : List NodeEntry) × Tells d (new ++ h) e × IsCutOff order (attached_of d attached) line h new (Ok (stops.Lied stream number sent got)))
+StepsSo order P line d attached h e (Err refused) =
     (new : List NodeEntry) × Tells d (new ++ h) e × LineBegins order (attached_of d attached) line (reverse new)
 
 -- the answer of a step as the run's

@@ -27,7 +27,7 @@ IsCutShort order sound s h failed before now halt = IsHalt order sound s h halt 
 -- with this history: all commands were run, and the head lines and the lines of the history written; or the run stopped
 abbrev pub HasRunUnendedTo : Order → (ℕ → Bool) → Script → List NodeEntry → Type 0 → Option (List ℕ) → Option (List ℕ) → Result Run Halt → Type 0
 HasRunUnendedTo order sound s h failed before now (Ok run) =
-    HasCome order s [] h run.engine run.unmet × HasTrueDowns sound h × Appends before now (told_text s h)
+    HasCome order s [] h run.engine run.unmet × HasTrueDowns sound s h × Appends before now (told_text s h)
 HasRunUnendedTo order sound s h failed before now (Err halt) =
     IsHistoryOver sound s h × HasBegun order s h × IsCutShort order sound s h failed before now halt
 

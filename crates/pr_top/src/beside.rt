@@ -7,10 +7,10 @@ ghost use Rattle.pr_story.specs.History.{NodeEntry};
 ghost use Rattle.pr_story.specs.Scripts.{ByTime};
 ghost use Rattle.pr_sim.specs.Making.{declared_of};
 ghost use Rattle.pr_top.specs.Carrying.{HasRunOver, StepCarries, TellsCarried, UnendedCarries};
-ghost use Rattle.pr_top.specs.Downs.{AddsTrueDowns, TellsTrueDowns};
+ghost use Rattle.pr_top.specs.Downs.{AddsTrueDowns, IsWithin, TellsTrueDowns};
 ghost use Rattle.pr_top.specs.Progress.{CanGoOn, HasCome, HasRunAll, HasStepped};
 ghost use Rattle.pr_top.specs.Unended.{HasRunUnended};
-ghost use Rattle.std.specs.Prelude.{◌≡◌, ◌∷◌, ◌≤◌, ◌+◌, ◌*◌, ◌^◌, [], IfOk, List, length, true};
+ghost use Rattle.std.specs.Prelude.{◌≡◌, ◌∷◌, ◌≤◌, ◌+◌, ◌*◌, ◌^◌, [], IfOk, List, drop, length, true};
 
 use crate::Status;
 use crate::running::{begin, finish, tell_from};
@@ -77,7 +77,7 @@ impl<'a, R: Threads + Wait + Sync, G: Gate> Beside<'a, R, G> {
         requires lines { length script.now.commands ≤ 100000 }
         requires few { W.made wires.old ≡ 0 }
         ensures run { HasRunAll ByTime (W.sound wires.old) script.now (HasRisen (K.faults out.old) (K.faults out.new)) (K.text out.old) (K.text out.new) run.new.engine run.new.unmet result }
-        ensures downs { TellsTrueDowns (W.sound wires.old) (declared_of script.now.decls.list) run.new.engine }
+        ensures downs { TellsTrueDowns (W.sound wires.old) script.now run.new.engine }
         ensures carried { IfOk result (λ done. TellsCarried script.now [] run.new.engine (W.carried wires.old) (W.carried wires.new)) }
         ensures rises { K.faults out.old ≤ K.faults out.new }
     {
@@ -104,11 +104,12 @@ impl<'a, R: Threads + Wait + Sync, G: Gate> Beside<'a, R, G> {
         requires come { CanGoOn ByTime (first.now ∷ behind.now) run.old.engine run.old.unmet }
         requires lines { length behind.now ≤ 100000 }
         requires few { W.made wires.old + 64 ≤ 2 ^ 40 }
-        ensures steps { (s : Script) (h : List NodeEntry) → HasCome ByTime s (first.now ∷ behind.now) h run.old.engine run.old.unmet → HasStepped ByTime (W.sound wires.old) s (first.now ∷ behind.now) h run.new.engine run.new.unmet result }
-        ensures downs { (s : Script) (h : List NodeEntry) → HasCome ByTime s (first.now ∷ behind.now) h run.old.engine run.old.unmet → AddsTrueDowns (W.sound wires.old) (declared_of s.decls.list) h run.new.engine }
+        ensures steps { (s : Script) → IsWithin (W.sound wires.old) (W.made wires.old) (first.now ∷ behind.now) s → (h : List NodeEntry) → HasCome ByTime s (first.now ∷ behind.now) h run.old.engine run.old.unmet → HasStepped ByTime (W.sound wires.old) s (first.now ∷ behind.now) h run.new.engine run.new.unmet result }
+        ensures downs { (s : Script) → IsWithin (W.sound wires.old) (W.made wires.old) (first.now ∷ behind.now) s → (h : List NodeEntry) → HasCome ByTime s (first.now ∷ behind.now) h run.old.engine run.old.unmet → AddsTrueDowns (W.sound wires.old) s h run.new.engine }
         ensures carried { (s : Script) (h : List NodeEntry) → HasCome ByTime s (first.now ∷ behind.now) h run.old.engine run.old.unmet → StepCarries s (first.now ∷ behind.now) h run.new.engine (W.carried wires.old) (W.carried wires.new) result }
         ensures made { W.made wires.new ≤ W.made wires.old + 64 }
         ensures sound { W.sound wires.new ≡ W.sound wires.old }
+        ensures within { (s : Script) → IsWithin (W.sound wires.old) (W.made wires.old) (first.now ∷ behind.now) s → (h : List NodeEntry) → HasCome ByTime s (first.now ∷ behind.now) h run.old.engine run.old.unmet → IfOk result (λ n. IsWithin (W.sound wires.new) (W.made wires.new) (drop (n + 1) (first.now ∷ behind.now)) s) }
     {
         match &first.1 {
             Command::Expect { want } => {
@@ -132,11 +133,12 @@ impl<'a, R: Threads + Wait + Sync, G: Gate> Beside<'a, R, G> {
         requires phase { is_phase first.now.1 ≡ true }
         requires lines { length behind.now ≤ 100000 }
         requires few { W.made wires.old + 64 ≤ 2 ^ 40 }
-        ensures steps { (s : Script) (h : List NodeEntry) → HasCome ByTime s (first.now ∷ behind.now) h run.old.engine run.old.unmet → HasStepped ByTime (W.sound wires.old) s (first.now ∷ behind.now) h run.new.engine run.new.unmet result }
-        ensures downs { (s : Script) (h : List NodeEntry) → HasCome ByTime s (first.now ∷ behind.now) h run.old.engine run.old.unmet → AddsTrueDowns (W.sound wires.old) (declared_of s.decls.list) h run.new.engine }
+        ensures steps { (s : Script) → IsWithin (W.sound wires.old) (W.made wires.old) (first.now ∷ behind.now) s → (h : List NodeEntry) → HasCome ByTime s (first.now ∷ behind.now) h run.old.engine run.old.unmet → HasStepped ByTime (W.sound wires.old) s (first.now ∷ behind.now) h run.new.engine run.new.unmet result }
+        ensures downs { (s : Script) → IsWithin (W.sound wires.old) (W.made wires.old) (first.now ∷ behind.now) s → (h : List NodeEntry) → HasCome ByTime s (first.now ∷ behind.now) h run.old.engine run.old.unmet → AddsTrueDowns (W.sound wires.old) s h run.new.engine }
         ensures carried { (s : Script) (h : List NodeEntry) → HasCome ByTime s (first.now ∷ behind.now) h run.old.engine run.old.unmet → StepCarries s (first.now ∷ behind.now) h run.new.engine (W.carried wires.old) (W.carried wires.new) result }
         ensures made { W.made wires.new ≤ W.made wires.old + 64 }
         ensures sound { W.sound wires.new ≡ W.sound wires.old }
+        ensures within { (s : Script) → IsWithin (W.sound wires.old) (W.made wires.old) (first.now ∷ behind.now) s → (h : List NodeEntry) → HasCome ByTime s (first.now ∷ behind.now) h run.old.engine run.old.unmet → IfOk result (λ n. IsWithin (W.sound wires.new) (W.made wires.new) (drop (n + 1) (first.now ∷ behind.now)) s) }
     {
         let _ = first;
         let (inside, left) = behind.split_at(phase_len(behind));

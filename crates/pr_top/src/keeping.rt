@@ -156,7 +156,7 @@ fn commands<D: Disk, K: Sink>(
     requires come { HasCome JobAfterJob script.now script.now.commands [] run.old.engine run.old.unmet }
     requires kept { Keeps D.state D.images keep.old [] }
     ensures run { HasKeptAll D.state D.images D.moment D.images_since keep.old keep.new script.now (HasRisen (K.faults out.old) (K.faults out.new)) (K.text out.old) (K.text out.new) run.new.engine run.new.unmet result }
-    ensures downs { TellsTrueDowns all_sound (declared_of script.now.decls.list) run.new.engine }
+    ensures downs { TellsTrueDowns all_sound script.now run.new.engine }
     ensures rises { K.faults out.old ≤ K.faults out.new }
 {
     let list = script.commands.as_slice();

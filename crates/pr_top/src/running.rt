@@ -143,7 +143,7 @@ pub fn begin<K: Sink>(alloc: Global, script: &Script, out: &mut K) -> Result<Run
 fn commands<K: Sink>(alloc: Global, script: &Script, run: &mut Run, out: &mut K) -> Result<(), Halt>
     requires { HasCome JobAfterJob script.now script.now.commands [] run.old.engine run.old.unmet }
     ensures run { HasRunAll JobAfterJob all_sound script.now (HasRisen (K.faults out.old) (K.faults out.new)) (K.text out.old) (K.text out.new) run.new.engine run.new.unmet result }
-    ensures downs { TellsTrueDowns all_sound (declared_of script.now.decls.list) run.new.engine }
+    ensures downs { TellsTrueDowns all_sound script.now run.new.engine }
     ensures rises { K.faults out.old ≤ K.faults out.new }
 {
     let list = script.commands.as_slice();

@@ -6,13 +6,13 @@ ghost use Rattle.pr_story.specs.History.{NodeEntry};
 ghost use Rattle.pr_text.specs.Histories.{first_of, is_met};
 ghost use Rattle.pr_sim.specs.Making.{declared_of};
 ghost use Rattle.pr_top.specs.Carrying.{StepCarries};
-ghost use Rattle.pr_top.specs.Downs.{AddsTrueDowns};
+ghost use Rattle.pr_top.specs.Downs.{AddsTrueDowns, IsWithin};
 ghost use Rattle.pr_top.specs.Progress.{CanGoOn, HasCome, HasStepped, IsAlone};
 ghost use Rattle.pr_top.specs.Stopping.{IsWent};
 ghost use Rattle.pr_top.specs.Runs.{all_sound};
 ghost use Rattle.pr_top.specs.declared.stepping.Halt.TheVariants as halts;
 ghost use Rattle.pr_story.specs.Scripts.{ByTime, JobAfterJob, Order};
-ghost use Rattle.std.specs.Prelude.{◌≡◌, ◌∷◌, ◌≤◌, ◌<◌, ◌+◌, ◌^◌, List, None, Some, cond, not, true};
+ghost use Rattle.std.specs.Prelude.{◌≡◌, ◌∷◌, ◌≤◌, ◌<◌, ◌+◌, ◌^◌, IfOk, List, None, Some, cond, drop, not, true};
 
 use pr_flow::Stop;
 use pr_script::{Bytes, Command, Want, phase_len};
@@ -59,7 +59,7 @@ impl Run {
     pub fn step(&mut self, first: &(u64, Command), behind: &[(u64, Command)]) -> Result<usize, Halt>
         requires { CanGoOn JobAfterJob (first.now ∷ behind.now) self.old.engine self.old.unmet }
         ensures steps { (s : Script) (h : List NodeEntry) → HasCome JobAfterJob s (first.now ∷ behind.now) h self.old.engine self.old.unmet → HasStepped JobAfterJob all_sound s (first.now ∷ behind.now) h self.new.engine self.new.unmet result }
-        ensures downs { (s : Script) (h : List NodeEntry) → HasCome JobAfterJob s (first.now ∷ behind.now) h self.old.engine self.old.unmet → AddsTrueDowns all_sound (declared_of s.decls.list) h self.new.engine }
+        ensures downs { (s : Script) (h : List NodeEntry) → HasCome JobAfterJob s (first.now ∷ behind.now) h self.old.engine self.old.unmet → AddsTrueDowns all_sound s h self.new.engine }
     {
         match &first.1 {
             Command::Expect { want } => {
@@ -76,7 +76,7 @@ impl Run {
         requires come { CanGoOn JobAfterJob (first.now ∷ behind.now) self.old.engine self.old.unmet }
         requires phase { is_phase first.now.1 ≡ true }
         ensures steps { (s : Script) (h : List NodeEntry) → HasCome JobAfterJob s (first.now ∷ behind.now) h self.old.engine self.old.unmet → HasStepped JobAfterJob all_sound s (first.now ∷ behind.now) h self.new.engine self.new.unmet result }
-        ensures downs { (s : Script) (h : List NodeEntry) → HasCome JobAfterJob s (first.now ∷ behind.now) h self.old.engine self.old.unmet → AddsTrueDowns all_sound (declared_of s.decls.list) h self.new.engine }
+        ensures downs { (s : Script) (h : List NodeEntry) → HasCome JobAfterJob s (first.now ∷ behind.now) h self.old.engine self.old.unmet → AddsTrueDowns all_sound s h self.new.engine }
     {
         let _ = first;
         let (inside, left) = behind.split_at(phase_len(behind));
@@ -94,11 +94,12 @@ impl Run {
         requires come { (order : Order) × CanGoOn order (first.now ∷ behind.now) self.old.engine self.old.unmet }
         requires alone { IsAlone first.now.1 }
         requires few { W.made wires.old < 2 ^ 40 }
-        ensures steps { (order : Order) (s : Script) (h : List NodeEntry) → HasCome order s (first.now ∷ behind.now) h self.old.engine self.old.unmet → HasStepped order (W.sound wires.old) s (first.now ∷ behind.now) h self.new.engine self.new.unmet result }
-        ensures downs { (order : Order) (s : Script) (h : List NodeEntry) → HasCome order s (first.now ∷ behind.now) h self.old.engine self.old.unmet → AddsTrueDowns (W.sound wires.old) (declared_of s.decls.list) h self.new.engine }
+        ensures steps { (order : Order) (s : Script) → IsWithin (W.sound wires.old) (W.made wires.old) (first.now ∷ behind.now) s → (h : List NodeEntry) → HasCome order s (first.now ∷ behind.now) h self.old.engine self.old.unmet → HasStepped order (W.sound wires.old) s (first.now ∷ behind.now) h self.new.engine self.new.unmet result }
+        ensures downs { (order : Order) (s : Script) → IsWithin (W.sound wires.old) (W.made wires.old) (first.now ∷ behind.now) s → (h : List NodeEntry) → HasCome order s (first.now ∷ behind.now) h self.old.engine self.old.unmet → AddsTrueDowns (W.sound wires.old) s h self.new.engine }
         ensures carried { (s : Script) (h : List NodeEntry) → HasCome ByTime s (first.now ∷ behind.now) h self.old.engine self.old.unmet → StepCarries s (first.now ∷ behind.now) h self.new.engine (W.carried wires.old) (W.carried wires.new) result }
         ensures made { W.made wires.new ≤ W.made wires.old + 1 }
         ensures sound { W.sound wires.new ≡ W.sound wires.old }
+        ensures within { (s : Script) → IsWithin (W.sound wires.old) (W.made wires.old) (first.now ∷ behind.now) s → IfOk result (λ n. IsWithin (W.sound wires.new) (W.made wires.new) (drop (n + 1) (first.now ∷ behind.now)) s) }
     {
         let _ = behind;
         went(self.engine.step(&first.1, wires))?;

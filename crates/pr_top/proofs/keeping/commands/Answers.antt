@@ -59,7 +59,7 @@ returns-in_err-keep_from-clause-run g c =
     let kept = c.keep_from.ensures (declared_of ds) (made.0 ++ w.h) made.1.tells (told_within made.0 w.h c.loop-at.told w.all_told) front in
     subst (λ (r : Result (Unit {0}) Break). HasKeptAll g.D.Disk.state g.D.Disk.images g.D.Disk.moment g.D.Disk.images_since c.args.keep.now c.keep_from.new.keep s failed a b f v r) (sym p.1)
     (not_kept g.D.Disk.state g.D.Disk.images g.D.Disk.moment g.D.Disk.images_since s w.h made.0 c.args.keep.now c.loop-at.keep c.keep_from.new.keep before failed c.loop-at.run.engine f c.loop-at.run.unmet v c.loop-at.told (drop c.loop-at.at s.commands) a b p.0 w.come
-    (downs_of all_sound (declared_of ds) w.h c.loop-at.run.engine (running_tells (declared_of ds) w.come.attached w.h c.loop-at.run.engine w.come.running) c.loop-at.invariant.downs)
+    (downs_of all_sound s w.h c.loop-at.run.engine (running_tells (declared_of ds) w.come.attached w.h c.loop-at.run.engine w.come.running) c.loop-at.invariant.downs)
     (over_of JobAfterJob all_sound s (made.0 ++ w.h) f halts.NoMemory made.1 downs) w.all_told made.2 w.written
     (subst (λ (r : Result (Unit {0}) Break). HasKeptFrom g.D.Disk.state g.D.Disk.images g.D.Disk.moment g.D.Disk.images_since c.loop-at.keep c.keep_from.new.keep (placed (reverse (made.0 ++ w.h))) c.loop-at.told v r) done kept))
 

@@ -1,5 +1,4 @@
 use Rattle.std.proofs.Common.{◌≤◌, ◌-◌, length, reverse}
-use Rattle.pr_sim.specs.Making.{declared_of}
 use Rattle.pr_story.specs.Scripts.{JobAfterJob}
 use Rattle.pr_top.specs.Downs.{TellsTrueDowns}
 use Rattle.pr_top.specs.Runs.{all_sound}
@@ -12,7 +11,7 @@ abbrev pub invariant-loop-at : goal.invariant-loop-at
 invariant-loop-at g l = record {
   rises : g.K.Sink.faults l.fn.out ≤ g.K.Sink.faults l.out;
   within : l.at ≤ length l.list;
-  downs : TellsTrueDowns all_sound (declared_of l.script.decls.list) l.run.engine;
+  downs : TellsTrueDowns all_sound l.script l.run.engine;
   held : (w : IsUnderWay JobAfterJob all_sound l.script l.at l.told l.run.engine l.run.unmet (g.K.Sink.text l.fn.out) (g.K.Sink.text l.out))
       × KeepsOn g.D.Disk.state g.D.Disk.images g.D.Disk.moment g.D.Disk.images_since l.fn.keep l.keep (placed (reverse w.h)) 0 (length w.h);
 }

@@ -81,7 +81,7 @@ returns-in_err-end-clause-told g c =
     let same = p.2 in
     let done : c.from_residual-in_err-end.result ≡ Err (breaks.Halted c.in_err-end.field-0.0) = cc in
     subst (λ (r : Result (Option Expected) Break). HasKeptTold g.D.Disk.state g.D.Disk.images g.D.Disk.moment g.D.Disk.images_since c.args.keep.now c.commands.new.keep s now a z r) (sym done)
-    (end_broke g.D.Disk.state g.D.Disk.images g.D.Disk.moment g.D.Disk.images_since s all.0 e u all.1 (downs_of all_sound (declared_of s.decls.list) all.0 e tells c.commands.ensures.downs) a b d z heads all.2 c.args.keep.now c.commands.new.keep all.3 now (Option Expected) c.in_err-end.field-0.0
+    (end_broke g.D.Disk.state g.D.Disk.images g.D.Disk.moment g.D.Disk.images_since s all.0 e u all.1 (downs_of all_sound s all.0 e tells c.commands.ensures.downs) a b d z heads all.2 c.args.keep.now c.commands.new.keep all.3 now (Option Expected) c.in_err-end.field-0.0
     (subst (λ (r : Result (Option Expected) Halt). Writes line now d z r) c.in_err-end.was written)
     (λ short. c.end.ensures.kept (c.in_err-end.was ∙ ap (λ (x : Halt). let r : Result (Option Expected) Halt = Err x in r) short)))
 
@@ -102,5 +102,5 @@ returns-clause-told g c =
     let rises : g.K.Sink.faults c.args.out.now ≤ g.K.Sink.faults c.commands.new.out = omega (arith, c.begin.ensures.rises, c.commands.ensures.rises) in
     let line : List ℕ = ok_line (length s.decls.list + length all.0) in
     let written = writes_map (Option Expected) later now d z line c.end.result (risen_then (g.K.Sink.faults c.args.out.now) (g.K.Sink.faults c.commands.new.out) (g.K.Sink.faults c.end.new.out) rises) (c.end.ensures.told all.0 tells) in
-    end_told g.D.Disk.state g.D.Disk.images g.D.Disk.moment g.D.Disk.images_since s all.0 e u all.1 (downs_of all_sound (declared_of s.decls.list) all.0 e tells c.commands.ensures.downs) a b d z heads all.2 c.args.keep.now c.commands.new.keep all.3 now c.in_ok-end.field-0
+    end_told g.D.Disk.state g.D.Disk.images g.D.Disk.moment g.D.Disk.images_since s all.0 e u all.1 (downs_of all_sound s all.0 e tells c.commands.ensures.downs) a b d z heads all.2 c.args.keep.now c.commands.new.keep all.3 now c.in_ok-end.field-0
     (subst (λ (r : Result (Option Expected) Halt). Writes line now d z r) c.in_ok-end.was written) c.in_ok-end.ensures.unmet

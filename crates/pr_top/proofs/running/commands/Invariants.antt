@@ -1,5 +1,4 @@
 use Rattle.std.proofs.Common.{◌≤◌, ◌-◌, length}
-use Rattle.pr_sim.specs.Making.{declared_of}
 use Rattle.pr_story.specs.Scripts.{JobAfterJob}
 use Rattle.pr_top.specs.Downs.{TellsTrueDowns}
 use Rattle.pr_top.specs.Runs.{all_sound}
@@ -10,7 +9,7 @@ abbrev pub invariant-loop-at : goal.invariant-loop-at
 invariant-loop-at g l = record {
   rises : g.K.Sink.faults l.fn.out ≤ g.K.Sink.faults l.out;
   within : l.at ≤ length l.list;
-  downs : TellsTrueDowns all_sound (declared_of l.script.decls.list) l.run.engine;
+  downs : TellsTrueDowns all_sound l.script l.run.engine;
   held : IsUnderWay JobAfterJob all_sound l.script l.at l.told l.run.engine l.run.unmet (g.K.Sink.text l.fn.out) (g.K.Sink.text l.out);
 }
 

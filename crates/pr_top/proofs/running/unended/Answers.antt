@@ -58,4 +58,4 @@ returns-clause-told g c =
     let all = c.in_ok-commands.ensures.run in
     let come = all.1 in
     let tells = running_tells (declared_of s.decls.list) come.attached all.0 c.commands.new.run.engine come.running in
-    (all.0, run_whole JobAfterJob all_sound now s all.0 c.commands.new.run a b d come (downs_of all_sound (declared_of s.decls.list) all.0 c.commands.new.run.engine tells c.commands.ensures.downs) c.in_ok-run.ensures.begun.1 all.2)
+    (all.0, run_whole JobAfterJob all_sound now s all.0 c.commands.new.run a b d come (downs_of all_sound s all.0 c.commands.new.run.engine tells c.commands.ensures.downs) c.in_ok-run.ensures.begun.1 all.2)

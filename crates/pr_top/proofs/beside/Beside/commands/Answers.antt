@@ -5,11 +5,11 @@ use Rattle.pr_script.specs.Steps.{Numbered}
 use Rattle.pr_sim.specs.Making.{declared_of}
 use Rattle.pr_sim.proofs.Story.{running_tells}
 use Rattle.pr_story.specs.Scripts.{ByTime}
-use Rattle.pr_top.specs.Progress.{HasRunAll, Writes, entry_lines}
+use Rattle.pr_top.specs.Progress.{HasCome, HasRunAll, Writes, entry_lines}
 use Rattle.pr_top.specs.declared.stepping.Halt.{Halt}
 use Rattle.pr_top.proofs.Carried.{carried_first, carried_last, carried_turn}
-use Rattle.pr_top.proofs.Downs.{first_downs}
-use Rattle.pr_top.proofs.Runs.{cut_run, downs_now, halted_now, last_turn, next_turn, stepped_so, stop_run, stops_now, told_within, went_now}
+use Rattle.pr_top.proofs.Downs.{first_downs, within_first}
+use Rattle.pr_top.proofs.Runs.{cut_run, downs_now, halted_now, last_turn, next_turn, stepped_so, rest_at, stop_run, stops_now, told_within, went_now, within_more, within_turn}
 use Rattle.pr_top.proofs.Written.{appends_none, risen_then, writes_map}
 use Rattle.pr_top.proofs.beside.Beside.commands.Goals as goal
 
@@ -20,6 +20,7 @@ loop-at-init g c = record {
   made = let none = c.requires.few in omega (arith, none);
   sound = refl;
   carried = carried_first c.args.script.now c.args.run.now.engine c.args.run.now.unmet (g.W.Wires.carried c.args.wires.now) c.requires.come;
+  unsound = within_first (g.W.Wires.sound c.args.wires.now) (g.W.Wires.made c.args.wires.now) c.args.script.now c.requires.few;
   downs = first_downs ByTime c.args.script.now (g.W.Wires.sound c.args.wires.now) c.args.run.now.engine c.args.run.now.unmet c.requires.come;
   held = record { h = []; come = c.requires.come; all_told = refl; written = appends_none (g.K.Sink.text c.args.out.now) };
 }
@@ -33,7 +34,7 @@ tell_from-requires g c =
     let b = g.K.Sink.text c.loop-at.out in
     let f = c.step-step.new.run.engine in
     let v = c.step-step.new.run.unmet in
-    let stops = stops_now ByTime (g.W.Wires.sound c.args.wires.now) s c.as_slice-list.result.now c.index-list-at.result c.loop-at.at c.loop-at.told c.loop-at.run.engine c.loop-at.run.unmet a b w c.as_slice-list.ensures c.loop-at-test.true c.index-list-at.is f v c.step-step.result (stepped_so ByTime (g.W.Wires.sound c.loop-at.wires) (g.W.Wires.sound c.args.wires.now) c.loop-at.invariant.sound s c.index-list-at.result (take (length c.as_slice-list.result.now - (c.loop-at.at + 1)) (drop (c.loop-at.at + 1) c.as_slice-list.result.now)) c.loop-at.run.engine c.loop-at.run.unmet f v c.step-step.result c.step-step.ensures.steps) in
+    let stops = stops_now ByTime (g.W.Wires.sound c.args.wires.now) s c.as_slice-list.result.now c.index-list-at.result c.loop-at.at c.loop-at.told c.loop-at.run.engine c.loop-at.run.unmet a b w c.as_slice-list.ensures c.loop-at-test.true c.index-list-at.is f v c.step-step.result (stepped_so ByTime (g.W.Wires.sound c.loop-at.wires) (g.W.Wires.sound c.args.wires.now) c.loop-at.invariant.sound s c.index-list-at.result (take (length c.as_slice-list.result.now - (c.loop-at.at + 1)) (drop (c.loop-at.at + 1) c.as_slice-list.result.now)) c.loop-at.run.engine c.loop-at.run.unmet f v c.step-step.result (c.step-step.ensures.steps s (within_turn (g.W.Wires.sound c.args.wires.now) (g.W.Wires.sound c.loop-at.wires) (g.W.Wires.made c.loop-at.wires) s c.as_slice-list.result.now c.index-list-at.result c.loop-at.at c.as_slice-list.ensures c.loop-at-test.true c.index-list-at.is c.loop-at.invariant.sound c.loop-at.invariant.unsound))) in
     (stops.0 ++ w.h, stops.1.tells, told_within stops.0 w.h c.loop-at.told w.all_told)
 
 pub returns-in_err-told-clause-run : goal.returns-in_err-told-clause-run
@@ -46,7 +47,7 @@ returns-in_err-told-clause-run g c =
     let f = c.step-step.new.run.engine in
     let v = c.step-step.new.run.unmet in
     let d = g.K.Sink.text c.tell_from.new.out in
-    let stops = stops_now ByTime (g.W.Wires.sound c.args.wires.now) s c.as_slice-list.result.now c.index-list-at.result c.loop-at.at c.loop-at.told c.loop-at.run.engine c.loop-at.run.unmet a b w c.as_slice-list.ensures c.loop-at-test.true c.index-list-at.is f v c.step-step.result (stepped_so ByTime (g.W.Wires.sound c.loop-at.wires) (g.W.Wires.sound c.args.wires.now) c.loop-at.invariant.sound s c.index-list-at.result (take (length c.as_slice-list.result.now - (c.loop-at.at + 1)) (drop (c.loop-at.at + 1) c.as_slice-list.result.now)) c.loop-at.run.engine c.loop-at.run.unmet f v c.step-step.result c.step-step.ensures.steps) in
+    let stops = stops_now ByTime (g.W.Wires.sound c.args.wires.now) s c.as_slice-list.result.now c.index-list-at.result c.loop-at.at c.loop-at.told c.loop-at.run.engine c.loop-at.run.unmet a b w c.as_slice-list.ensures c.loop-at-test.true c.index-list-at.is f v c.step-step.result (stepped_so ByTime (g.W.Wires.sound c.loop-at.wires) (g.W.Wires.sound c.args.wires.now) c.loop-at.invariant.sound s c.index-list-at.result (take (length c.as_slice-list.result.now - (c.loop-at.at + 1)) (drop (c.loop-at.at + 1) c.as_slice-list.result.now)) c.loop-at.run.engine c.loop-at.run.unmet f v c.step-step.result (c.step-step.ensures.steps s (within_turn (g.W.Wires.sound c.args.wires.now) (g.W.Wires.sound c.loop-at.wires) (g.W.Wires.made c.loop-at.wires) s c.as_slice-list.result.now c.index-list-at.result c.loop-at.at c.as_slice-list.ensures c.loop-at-test.true c.index-list-at.is c.loop-at.invariant.sound c.loop-at.invariant.unsound))) in
     let failed : Type 0 = HasRisen (g.K.Sink.faults c.loop-at.out) (g.K.Sink.faults c.tell_from.new.out) in
     let now : Type 0 = HasRisen (g.K.Sink.faults c.args.out.now) (g.K.Sink.faults c.tell_from.new.out) in
     let p = err_from_is_err_and c.from_residual.result c.from_residual.ensures.1 in
@@ -74,7 +75,7 @@ returns-in_err-at-clause-run g c =
     let was = c.in_err-at.was in
     let same = p.2 in
     let done : c.step-step.result ≡ Err p.0 = cc in
-    let halted = halted_now ByTime (g.W.Wires.sound c.args.wires.now) s c.as_slice-list.result.now c.index-list-at.result c.loop-at.at c.loop-at.told c.loop-at.run.engine c.loop-at.run.unmet a b w c.as_slice-list.ensures c.loop-at-test.true c.index-list-at.is f v c.step-step.result (stepped_so ByTime (g.W.Wires.sound c.loop-at.wires) (g.W.Wires.sound c.args.wires.now) c.loop-at.invariant.sound s c.index-list-at.result (take (length c.as_slice-list.result.now - (c.loop-at.at + 1)) (drop (c.loop-at.at + 1) c.as_slice-list.result.now)) c.loop-at.run.engine c.loop-at.run.unmet f v c.step-step.result c.step-step.ensures.steps) p.0 done in
+    let halted = halted_now ByTime (g.W.Wires.sound c.args.wires.now) s c.as_slice-list.result.now c.index-list-at.result c.loop-at.at c.loop-at.told c.loop-at.run.engine c.loop-at.run.unmet a b w c.as_slice-list.ensures c.loop-at-test.true c.index-list-at.is f v c.step-step.result (stepped_so ByTime (g.W.Wires.sound c.loop-at.wires) (g.W.Wires.sound c.args.wires.now) c.loop-at.invariant.sound s c.index-list-at.result (take (length c.as_slice-list.result.now - (c.loop-at.at + 1)) (drop (c.loop-at.at + 1) c.as_slice-list.result.now)) c.loop-at.run.engine c.loop-at.run.unmet f v c.step-step.result (c.step-step.ensures.steps s (within_turn (g.W.Wires.sound c.args.wires.now) (g.W.Wires.sound c.loop-at.wires) (g.W.Wires.made c.loop-at.wires) s c.as_slice-list.result.now c.index-list-at.result c.loop-at.at c.as_slice-list.ensures c.loop-at-test.true c.index-list-at.is c.loop-at.invariant.sound c.loop-at.invariant.unsound))) p.0 done in
     subst (λ (r : Result (Unit {0}) Halt). HasRunAll ByTime (g.W.Wires.sound c.args.wires.now) s now a d f v r) (sym p.1)
     (stop_run ByTime (g.W.Wires.sound c.args.wires.now) now s w.h halted.0 f v c.loop-at.told a b d p.0 halted.1 w.all_told w.written (c.in_ok-told.ensures.told (halted.0 ++ w.h) halted.1.tells))
 
@@ -87,7 +88,7 @@ overflow_add-at-in-loop-at g c =
     let b = g.K.Sink.text c.loop-at.out in
     let f = c.step-step.new.run.engine in
     let v = c.step-step.new.run.unmet in
-    let went = went_now ByTime (g.W.Wires.sound c.args.wires.now) s c.as_slice-list.result.now c.index-list-at.result c.loop-at.at c.loop-at.told c.loop-at.run.engine c.loop-at.run.unmet a b w c.as_slice-list.ensures c.loop-at-test.true c.index-list-at.is f v c.step-step.result (stepped_so ByTime (g.W.Wires.sound c.loop-at.wires) (g.W.Wires.sound c.args.wires.now) c.loop-at.invariant.sound s c.index-list-at.result (take (length c.as_slice-list.result.now - (c.loop-at.at + 1)) (drop (c.loop-at.at + 1) c.as_slice-list.result.now)) c.loop-at.run.engine c.loop-at.run.unmet f v c.step-step.result c.step-step.ensures.steps) c.in_ok-at.field-0 c.in_ok-at.was in
+    let went = went_now ByTime (g.W.Wires.sound c.args.wires.now) s c.as_slice-list.result.now c.index-list-at.result c.loop-at.at c.loop-at.told c.loop-at.run.engine c.loop-at.run.unmet a b w c.as_slice-list.ensures c.loop-at-test.true c.index-list-at.is f v c.step-step.result (stepped_so ByTime (g.W.Wires.sound c.loop-at.wires) (g.W.Wires.sound c.args.wires.now) c.loop-at.invariant.sound s c.index-list-at.result (take (length c.as_slice-list.result.now - (c.loop-at.at + 1)) (drop (c.loop-at.at + 1) c.as_slice-list.result.now)) c.loop-at.run.engine c.loop-at.run.unmet f v c.step-step.result (c.step-step.ensures.steps s (within_turn (g.W.Wires.sound c.args.wires.now) (g.W.Wires.sound c.loop-at.wires) (g.W.Wires.made c.loop-at.wires) s c.as_slice-list.result.now c.index-list-at.result c.loop-at.at c.as_slice-list.ensures c.loop-at-test.true c.index-list-at.is c.loop-at.invariant.sound c.loop-at.invariant.unsound))) c.in_ok-at.field-0 c.in_ok-at.was in
     let within : c.loop-at.at + (c.in_ok-at.field-0 + 1) ≤ length c.as_slice-list.result.now = went.0 in
     search rules
 
@@ -100,7 +101,7 @@ overflow_add-at-in-loop-at-2 g c =
     let b = g.K.Sink.text c.loop-at.out in
     let f = c.step-step.new.run.engine in
     let v = c.step-step.new.run.unmet in
-    let went = went_now ByTime (g.W.Wires.sound c.args.wires.now) s c.as_slice-list.result.now c.index-list-at.result c.loop-at.at c.loop-at.told c.loop-at.run.engine c.loop-at.run.unmet a b w c.as_slice-list.ensures c.loop-at-test.true c.index-list-at.is f v c.step-step.result (stepped_so ByTime (g.W.Wires.sound c.loop-at.wires) (g.W.Wires.sound c.args.wires.now) c.loop-at.invariant.sound s c.index-list-at.result (take (length c.as_slice-list.result.now - (c.loop-at.at + 1)) (drop (c.loop-at.at + 1) c.as_slice-list.result.now)) c.loop-at.run.engine c.loop-at.run.unmet f v c.step-step.result c.step-step.ensures.steps) c.in_ok-at.field-0 c.in_ok-at.was in
+    let went = went_now ByTime (g.W.Wires.sound c.args.wires.now) s c.as_slice-list.result.now c.index-list-at.result c.loop-at.at c.loop-at.told c.loop-at.run.engine c.loop-at.run.unmet a b w c.as_slice-list.ensures c.loop-at-test.true c.index-list-at.is f v c.step-step.result (stepped_so ByTime (g.W.Wires.sound c.loop-at.wires) (g.W.Wires.sound c.args.wires.now) c.loop-at.invariant.sound s c.index-list-at.result (take (length c.as_slice-list.result.now - (c.loop-at.at + 1)) (drop (c.loop-at.at + 1) c.as_slice-list.result.now)) c.loop-at.run.engine c.loop-at.run.unmet f v c.step-step.result (c.step-step.ensures.steps s (within_turn (g.W.Wires.sound c.args.wires.now) (g.W.Wires.sound c.loop-at.wires) (g.W.Wires.made c.loop-at.wires) s c.as_slice-list.result.now c.index-list-at.result c.loop-at.at c.as_slice-list.ensures c.loop-at-test.true c.index-list-at.is c.loop-at.invariant.sound c.loop-at.invariant.unsound))) c.in_ok-at.field-0 c.in_ok-at.was in
     let within : c.loop-at.at + (c.in_ok-at.field-0 + 1) ≤ length c.as_slice-list.result.now = went.0 in
     search rules
 
@@ -114,7 +115,7 @@ loop-at-preserved g c =
     let f = c.step-step.new.run.engine in
     let v = c.step-step.new.run.unmet in
     let d = g.K.Sink.text c.tell_from.new.out in
-    let went = went_now ByTime (g.W.Wires.sound c.args.wires.now) s c.as_slice-list.result.now c.index-list-at.result c.loop-at.at c.loop-at.told c.loop-at.run.engine c.loop-at.run.unmet a b w c.as_slice-list.ensures c.loop-at-test.true c.index-list-at.is f v c.step-step.result (stepped_so ByTime (g.W.Wires.sound c.loop-at.wires) (g.W.Wires.sound c.args.wires.now) c.loop-at.invariant.sound s c.index-list-at.result (take (length c.as_slice-list.result.now - (c.loop-at.at + 1)) (drop (c.loop-at.at + 1) c.as_slice-list.result.now)) c.loop-at.run.engine c.loop-at.run.unmet f v c.step-step.result c.step-step.ensures.steps) c.in_ok-at.field-0 c.in_ok-at.was in
+    let went = went_now ByTime (g.W.Wires.sound c.args.wires.now) s c.as_slice-list.result.now c.index-list-at.result c.loop-at.at c.loop-at.told c.loop-at.run.engine c.loop-at.run.unmet a b w c.as_slice-list.ensures c.loop-at-test.true c.index-list-at.is f v c.step-step.result (stepped_so ByTime (g.W.Wires.sound c.loop-at.wires) (g.W.Wires.sound c.args.wires.now) c.loop-at.invariant.sound s c.index-list-at.result (take (length c.as_slice-list.result.now - (c.loop-at.at + 1)) (drop (c.loop-at.at + 1) c.as_slice-list.result.now)) c.loop-at.run.engine c.loop-at.run.unmet f v c.step-step.result (c.step-step.ensures.steps s (within_turn (g.W.Wires.sound c.args.wires.now) (g.W.Wires.sound c.loop-at.wires) (g.W.Wires.made c.loop-at.wires) s c.as_slice-list.result.now c.index-list-at.result c.loop-at.at c.as_slice-list.ensures c.loop-at-test.true c.index-list-at.is c.loop-at.invariant.sound c.loop-at.invariant.unsound))) c.in_ok-at.field-0 c.in_ok-at.was in
     let new = went.1.0 in
     let come = went.1.1 in
     let tells = running_tells (declared_of ds) come.attached (new ++ w.h) f come.running in
@@ -126,7 +127,10 @@ loop-at-preserved g c =
       carried = carried_turn s c.as_slice-list.result.now c.index-list-at.result c.loop-at.at c.in_ok-at.field-0 w.h c.loop-at.run.engine f c.loop-at.run.unmet c.step-step.result
           (g.W.Wires.carried c.args.wires.now) (g.W.Wires.carried c.loop-at.wires) (g.W.Wires.carried c.step-step.new.wires) w.come c.as_slice-list.ensures c.loop-at-test.true c.index-list-at.is c.in_ok-at.was
           (λ h come. c.step-step.ensures.carried s h come) c.loop-at.invariant.carried;
-      downs = downs_now ByTime (g.W.Wires.sound c.args.wires.now) s c.as_slice-list.result.now c.index-list-at.result c.loop-at.at c.loop-at.told c.loop-at.run.engine c.loop-at.run.unmet a b w c.as_slice-list.ensures c.loop-at-test.true c.index-list-at.is f v c.step-step.result (stepped_so ByTime (g.W.Wires.sound c.loop-at.wires) (g.W.Wires.sound c.args.wires.now) c.loop-at.invariant.sound s c.index-list-at.result (take (length c.as_slice-list.result.now - (c.loop-at.at + 1)) (drop (c.loop-at.at + 1) c.as_slice-list.result.now)) c.loop-at.run.engine c.loop-at.run.unmet f v c.step-step.result c.step-step.ensures.steps) (g.W.Wires.sound c.loop-at.wires) c.loop-at.invariant.sound (λ h come. c.step-step.ensures.downs s h come) c.loop-at.invariant.downs;
+      unsound = within_more (g.W.Wires.sound c.args.wires.now) (g.W.Wires.sound c.step-step.new.wires) (g.W.Wires.made c.step-step.new.wires) s c.as_slice-list.result.now c.index-list-at.result c.loop-at.at c.in_ok-at.field-0 c.as_slice-list.ensures c.loop-at-test.true c.index-list-at.is
+          (c.step-step.ensures.sound ∙ c.loop-at.invariant.sound) c.step-step.result c.in_ok-at.was
+          (c.step-step.ensures.within s (within_turn (g.W.Wires.sound c.args.wires.now) (g.W.Wires.sound c.loop-at.wires) (g.W.Wires.made c.loop-at.wires) s c.as_slice-list.result.now c.index-list-at.result c.loop-at.at c.as_slice-list.ensures c.loop-at-test.true c.index-list-at.is c.loop-at.invariant.sound c.loop-at.invariant.unsound) w.h (subst (λ (xs : List Numbered). HasCome ByTime s xs w.h c.loop-at.run.engine c.loop-at.run.unmet) (rest_at s.commands c.as_slice-list.result.now c.index-list-at.result c.loop-at.at c.as_slice-list.ensures c.loop-at-test.true c.index-list-at.is) w.come));
+      downs = downs_now ByTime (g.W.Wires.sound c.args.wires.now) s c.as_slice-list.result.now c.index-list-at.result c.loop-at.at c.loop-at.told c.loop-at.run.engine c.loop-at.run.unmet a b w c.as_slice-list.ensures c.loop-at-test.true c.index-list-at.is f v c.step-step.result (stepped_so ByTime (g.W.Wires.sound c.loop-at.wires) (g.W.Wires.sound c.args.wires.now) c.loop-at.invariant.sound s c.index-list-at.result (take (length c.as_slice-list.result.now - (c.loop-at.at + 1)) (drop (c.loop-at.at + 1) c.as_slice-list.result.now)) c.loop-at.run.engine c.loop-at.run.unmet f v c.step-step.result (c.step-step.ensures.steps s (within_turn (g.W.Wires.sound c.args.wires.now) (g.W.Wires.sound c.loop-at.wires) (g.W.Wires.made c.loop-at.wires) s c.as_slice-list.result.now c.index-list-at.result c.loop-at.at c.as_slice-list.ensures c.loop-at-test.true c.index-list-at.is c.loop-at.invariant.sound c.loop-at.invariant.unsound))) (g.W.Wires.sound c.loop-at.wires) c.loop-at.invariant.sound (c.step-step.ensures.downs s (within_turn (g.W.Wires.sound c.args.wires.now) (g.W.Wires.sound c.loop-at.wires) (g.W.Wires.made c.loop-at.wires) s c.as_slice-list.result.now c.index-list-at.result c.loop-at.at c.as_slice-list.ensures c.loop-at-test.true c.index-list-at.is c.loop-at.invariant.sound c.loop-at.invariant.unsound)) c.loop-at.invariant.downs;
       held = next_turn ByTime (g.W.Wires.sound c.args.wires.now) s c.loop-at.at c.loop-at.told c.in_ok-at.field-0 c.in_ok-told.told c.loop-at.run.engine f c.loop-at.run.unmet v a b d w new come (c.in_ok-told.ensures.count (new ++ w.h) tells) (c.in_ok-told.ensures.told (new ++ w.h) tells);
     }
 
@@ -149,7 +153,7 @@ returns-in_err-told-clause-downs g c =
     let b = g.K.Sink.text c.loop-at.out in
     let f = c.step-step.new.run.engine in
     let v = c.step-step.new.run.unmet in
-    downs_now ByTime (g.W.Wires.sound c.args.wires.now) s c.as_slice-list.result.now c.index-list-at.result c.loop-at.at c.loop-at.told c.loop-at.run.engine c.loop-at.run.unmet a b w c.as_slice-list.ensures c.loop-at-test.true c.index-list-at.is f v c.step-step.result (stepped_so ByTime (g.W.Wires.sound c.loop-at.wires) (g.W.Wires.sound c.args.wires.now) c.loop-at.invariant.sound s c.index-list-at.result (take (length c.as_slice-list.result.now - (c.loop-at.at + 1)) (drop (c.loop-at.at + 1) c.as_slice-list.result.now)) c.loop-at.run.engine c.loop-at.run.unmet f v c.step-step.result c.step-step.ensures.steps) (g.W.Wires.sound c.loop-at.wires) c.loop-at.invariant.sound (λ h come. c.step-step.ensures.downs s h come) c.loop-at.invariant.downs
+    downs_now ByTime (g.W.Wires.sound c.args.wires.now) s c.as_slice-list.result.now c.index-list-at.result c.loop-at.at c.loop-at.told c.loop-at.run.engine c.loop-at.run.unmet a b w c.as_slice-list.ensures c.loop-at-test.true c.index-list-at.is f v c.step-step.result (stepped_so ByTime (g.W.Wires.sound c.loop-at.wires) (g.W.Wires.sound c.args.wires.now) c.loop-at.invariant.sound s c.index-list-at.result (take (length c.as_slice-list.result.now - (c.loop-at.at + 1)) (drop (c.loop-at.at + 1) c.as_slice-list.result.now)) c.loop-at.run.engine c.loop-at.run.unmet f v c.step-step.result (c.step-step.ensures.steps s (within_turn (g.W.Wires.sound c.args.wires.now) (g.W.Wires.sound c.loop-at.wires) (g.W.Wires.made c.loop-at.wires) s c.as_slice-list.result.now c.index-list-at.result c.loop-at.at c.as_slice-list.ensures c.loop-at-test.true c.index-list-at.is c.loop-at.invariant.sound c.loop-at.invariant.unsound))) (g.W.Wires.sound c.loop-at.wires) c.loop-at.invariant.sound (c.step-step.ensures.downs s (within_turn (g.W.Wires.sound c.args.wires.now) (g.W.Wires.sound c.loop-at.wires) (g.W.Wires.made c.loop-at.wires) s c.as_slice-list.result.now c.index-list-at.result c.loop-at.at c.as_slice-list.ensures c.loop-at-test.true c.index-list-at.is c.loop-at.invariant.sound c.loop-at.invariant.unsound)) c.loop-at.invariant.downs
 
 pub returns-in_err-at-clause-downs : goal.returns-in_err-at-clause-downs
 returns-in_err-at-clause-downs g c =
@@ -159,4 +163,4 @@ returns-in_err-at-clause-downs g c =
     let b = g.K.Sink.text c.loop-at.out in
     let f = c.step-step.new.run.engine in
     let v = c.step-step.new.run.unmet in
-    downs_now ByTime (g.W.Wires.sound c.args.wires.now) s c.as_slice-list.result.now c.index-list-at.result c.loop-at.at c.loop-at.told c.loop-at.run.engine c.loop-at.run.unmet a b w c.as_slice-list.ensures c.loop-at-test.true c.index-list-at.is f v c.step-step.result (stepped_so ByTime (g.W.Wires.sound c.loop-at.wires) (g.W.Wires.sound c.args.wires.now) c.loop-at.invariant.sound s c.index-list-at.result (take (length c.as_slice-list.result.now - (c.loop-at.at + 1)) (drop (c.loop-at.at + 1) c.as_slice-list.result.now)) c.loop-at.run.engine c.loop-at.run.unmet f v c.step-step.result c.step-step.ensures.steps) (g.W.Wires.sound c.loop-at.wires) c.loop-at.invariant.sound (λ h come. c.step-step.ensures.downs s h come) c.loop-at.invariant.downs
+    downs_now ByTime (g.W.Wires.sound c.args.wires.now) s c.as_slice-list.result.now c.index-list-at.result c.loop-at.at c.loop-at.told c.loop-at.run.engine c.loop-at.run.unmet a b w c.as_slice-list.ensures c.loop-at-test.true c.index-list-at.is f v c.step-step.result (stepped_so ByTime (g.W.Wires.sound c.loop-at.wires) (g.W.Wires.sound c.args.wires.now) c.loop-at.invariant.sound s c.index-list-at.result (take (length c.as_slice-list.result.now - (c.loop-at.at + 1)) (drop (c.loop-at.at + 1) c.as_slice-list.result.now)) c.loop-at.run.engine c.loop-at.run.unmet f v c.step-step.result (c.step-step.ensures.steps s (within_turn (g.W.Wires.sound c.args.wires.now) (g.W.Wires.sound c.loop-at.wires) (g.W.Wires.made c.loop-at.wires) s c.as_slice-list.result.now c.index-list-at.result c.loop-at.at c.as_slice-list.ensures c.loop-at-test.true c.index-list-at.is c.loop-at.invariant.sound c.loop-at.invariant.unsound))) (g.W.Wires.sound c.loop-at.wires) c.loop-at.invariant.sound (c.step-step.ensures.downs s (within_turn (g.W.Wires.sound c.args.wires.now) (g.W.Wires.sound c.loop-at.wires) (g.W.Wires.made c.loop-at.wires) s c.as_slice-list.result.now c.index-list-at.result c.loop-at.at c.as_slice-list.ensures c.loop-at-test.true c.index-list-at.is c.loop-at.invariant.sound c.loop-at.invariant.unsound)) c.loop-at.invariant.downs

@@ -1,8 +1,7 @@
 use Rattle.std.proofs.Common.{◌≡◌, ◌≤◌, ◌*◌, ◌-◌, drop, length}
-use Rattle.pr_sim.specs.Making.{declared_of}
 use Rattle.pr_story.specs.Scripts.{ByTime}
 use Rattle.pr_top.specs.Carrying.{TellsCarried}
-use Rattle.pr_top.specs.Downs.{TellsTrueDowns}
+use Rattle.pr_top.specs.Downs.{IsWithin, TellsTrueDowns}
 use Rattle.pr_top.proofs.Runs.{IsUnderWay}
 use Rattle.pr_top.proofs.beside.Beside.commands.Given as goal
 
@@ -13,7 +12,8 @@ invariant-loop-at g l = record {
   made : g.W.Wires.made l.wires ≤ 64 * l.at;
   sound : g.W.Wires.sound l.wires ≡ g.W.Wires.sound l.fn.wires;
   carried : TellsCarried l.script (drop l.at l.script.commands) l.run.engine (g.W.Wires.carried l.fn.wires) (g.W.Wires.carried l.wires);
-  downs : TellsTrueDowns (g.W.Wires.sound l.fn.wires) (declared_of l.script.decls.list) l.run.engine;
+  unsound : IsWithin (g.W.Wires.sound l.fn.wires) (g.W.Wires.made l.wires) (drop l.at l.script.commands) l.script;
+  downs : TellsTrueDowns (g.W.Wires.sound l.fn.wires) l.script l.run.engine;
   held : IsUnderWay ByTime (g.W.Wires.sound l.fn.wires) l.script l.at l.told l.run.engine l.run.unmet (g.K.Sink.text l.fn.out) (g.K.Sink.text l.out);
 }
 

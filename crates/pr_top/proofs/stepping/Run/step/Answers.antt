@@ -3,7 +3,7 @@ use Rattle.pr_script.specs.declared.command.Command.{Command}
 use Rattle.pr_story.specs.Scripts.{JobAfterJob}
 use Rattle.pr_top.specs.Progress.{HasCome}
 use Rattle.pr_top.specs.Runs.{all_sound}
-use Rattle.pr_top.proofs.Downs.{same_downs}
+use Rattle.pr_top.proofs.Downs.{same_downs, within_sound}
 use Rattle.pr_top.proofs.stepping.Run.step.Goals as goal
 
 pub judge-requires : goal.judge-requires
@@ -27,7 +27,7 @@ returns-in-Expect-clause-downs c = λ s h k.
     (c.judge.ensures JobAfterJob s h (subst (λ (x : Command). HasCome JobAfterJob s ((c.args.first.now.0, x) ∷ c.args.behind.now) h c.args.self.now.engine c.args.self.now.unmet) c.in-Expect.is k))
 
 pub returns-in_default-clause-steps : goal.returns-in_default-clause-steps
-returns-in_default-clause-steps c = λ s h k. c.alone.ensures.steps JobAfterJob s h k
+returns-in_default-clause-steps c = λ s h k. c.alone.ensures.steps JobAfterJob s (within_sound _ (c.args.first.now ∷ c.args.behind.now) s) h k
 
 pub returns-in_default-clause-downs : goal.returns-in_default-clause-downs
-returns-in_default-clause-downs c = λ s h k. c.alone.ensures.downs JobAfterJob s h k
+returns-in_default-clause-downs c = λ s h k. c.alone.ensures.downs JobAfterJob s (within_sound _ (c.args.first.now ∷ c.args.behind.now) s) h k
