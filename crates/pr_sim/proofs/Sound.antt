@@ -91,12 +91,3 @@ adds_of d attached h e P B (Err fault) whole begun (new, tells, is, cause) = (ne
 pub flow_adds_sound : (d : Declared) (attached : ℕ → Bool) (h : List NodeEntry) (e : Engine) (r : Result FlowEnd NodeFault) → GrowsSound d attached h e r → IsSoundEnd r → AddsSound d h e
 flow_adds_sound d attached h e (Ok end) (new, running, is) ends = (new, running_tells d attached (new ++ h) e running, sound_reversed new (is ends))
 flow_adds_sound d attached h e (Err fault) (new, tells, is, cause) ends = (new, tells, sound_reversed new is)
-
--- what was added is one list
-pub same_added : (d : Declared) (attached : ℕ → Bool) (h new : List NodeEntry) (e : Engine) → IsRunning d attached (new ++ h) e → AddsSound d h e → AreSoundEvents new
-same_added d attached h new e running (other, tells, sound) =
-    subst (λ (l : List NodeEntry). AreSoundEvents l) (append_cancel_right other new h (tells_story d (other ++ h) e tells ∙ sym (tells_story d (new ++ h) e (running_tells d attached (new ++ h) e running)))) sound
-
--- sound entries, and then others
-pub adds_more : (d : Declared) (h first : List NodeEntry) (e : Engine) → AreSoundEvents first → AddsSound d (first ++ h) e → AddsSound d h e
-adds_more d h first e front (new, tells, sound) = (new ++ first, subst (λ (g : List NodeEntry). Tells d g e) (sym (append_assoc new first h)) tells, sound_both new first sound front)
