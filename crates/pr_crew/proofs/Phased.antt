@@ -6,7 +6,6 @@ use Rattle.std.proofs.lemmas.List.Elements.{All-contains, All-weaker}
 use Rattle.pr_cell.specs.Passes.{HoldsAll, held}
 use Rattle.pr_flow.specs.declared.stop.Stop.{Stop}
 use Rattle.pr_flow.specs.declared.stop.Stop.TheVariants as stops
-use Rattle.pr_flow.proofs.Downs.{downs_sound}
 use Rattle.pr_inval.specs.Standing.{Remembered}
 use Rattle.pr_merge.specs.Holding.{AreAllHere, AreSessions, HeldState}
 use Rattle.pr_node.specs.Stored.{Stored}
@@ -32,7 +31,7 @@ use Rattle.pr_crew.specs.Making.{IsCellOf, NodeCell, NodePass}
 use Rattle.pr_crew.specs.Phases.{AreDistinct, CanRunJob, CanRunPhase, IsOut, IsPlanned, LeavesPhase, PhaseEnds, RepresentsNodes, SameAttached}
 use Rattle.pr_crew.specs.Rooms.{HasAppended}
 use Rattle.pr_crew.specs.Sites.{CanClose, IsBeside, IsClosed, IsHere, IsOpened, IsSite}
-use Rattle.pr_crew.specs.Sound.{AddsDownsOf, AddsSound, HaveEndsOf}
+use Rattle.pr_crew.specs.Sound.{AddsDownsOf, HaveEndsOf}
 use Rattle.pr_crew.specs.Starting.{CanStart, IsLent}
 use Rattle.pr_crew.specs.Asking.{IsShort}
 use Rattle.pr_crew.specs.Works.{AreWorks, CanPlan, IsWork}
@@ -258,10 +257,6 @@ module _ (records : Declared → List NodeEntry → Type 0) (d : Declared) (h : 
 -- nothing was added
 pub none_added : (P : ℕ → Type 0) (final : Declared → List NodeEntry → Type 0) (d : Declared) (h : List NodeEntry) (s : HeldState Stored) → RepresentsNodes final d h s → AddsDownsOf P final d h s
 none_added P final d h s r = ([], r, tt)
-
--- where there is no such stream, what was added is sound
-pub sound_of : (P : ℕ → Type 0) (final : Declared → List NodeEntry → Type 0) (d : Declared) (h : List NodeEntry) (s : HeldState Stored) → ((x : ℕ) → P x → ⊥) → AddsDownsOf P final d h s → AddsSound final d h s
-sound_of P final d h s none (new, represents, downs) = (new, represents, downs_sound P none new downs)
 
 -- nothing is said of a phase that did not go its way
 pub none_carried : (final : Declared → List NodeEntry → Type 0) (d : Declared) (h : List NodeEntry) (inside : List Numbered) (s : HeldState Stored) (before now : Option (List (List ℕ))) (result : Result Stop NoMemory) (x : NoMemory) → result ≡ Err x

@@ -2,7 +2,6 @@
 use Rattle.std.specs.Prelude.{ℕ, List, ◌++◌, ◌≡◌, ◌⊎◌, Some, slice_get}
 use Rattle.pr_flow.specs.Downs.{AreDownsOf}
 use Rattle.pr_flow.specs.Ending.{IsSoundEnd}
-use Rattle.pr_flow.specs.Sound.{AreSoundEvents}
 use Rattle.pr_merge.specs.Holding.{HeldState}
 use Rattle.pr_node.specs.Stored.{Stored}
 use Rattle.pr_story.specs.Counts.{Declared}
@@ -16,10 +15,6 @@ use Rattle.pr_crew.specs.Phases.{RepresentsNodes}
 abbrev pub HaveEndsOf : {W : Type 0} → (ℕ → Type 0) → List (Task W) → Type 0
 HaveEndsOf {W} P ts = (k : ℕ) (t : FlowTask W) → slice_get ts k ≡ Some (tasks.Flow t) → IsSoundEnd t.end ⊎ P t.work.stream
 
--- what is held represents h with entries none of which says that a wire failed or ended
-abbrev pub AddsSound : (Declared → List NodeEntry → Type 0) → Declared → List NodeEntry → HeldState Stored → Type 0
-AddsSound records d h s = (new : List NodeEntry) × RepresentsNodes records d (new ++ h) s × AreSoundEvents new
-
--- so it is but for flows of these streams
+-- what is held represents h with entries which say that a wire failed or ended for flows of these streams alone
 abbrev pub AddsDownsOf : (ℕ → Type 0) → (Declared → List NodeEntry → Type 0) → Declared → List NodeEntry → HeldState Stored → Type 0
 AddsDownsOf P records d h s = (new : List NodeEntry) × RepresentsNodes records d (new ++ h) s × AreDownsOf P new

@@ -6,7 +6,7 @@ ghost use Rattle.pr_crew.specs.Leaving.{HaveRun};
 ghost use Rattle.pr_crew.specs.Phases.{AllWork, AreDistinct, CanRunPhase, IsOut, IsPlanned, LeavesPhase, RepresentsNodes, SameAttached};
 ghost use Rattle.pr_crew.specs.Rooms.{HasRoomFor, KnowsOpening, total_at};
 ghost use Rattle.pr_merge.specs.Holding.{HeldState};
-ghost use Rattle.pr_crew.specs.Sound.{AddsDownsOf, AddsSound, HaveEndsOf};
+ghost use Rattle.pr_crew.specs.Sound.{AddsDownsOf, HaveEndsOf};
 ghost use Rattle.pr_crew.specs.Starting.{CanStart};
 ghost use Rattle.pr_crew.specs.Tasks.{IsDone, IsHonest, IsReady, StaysJob};
 ghost use Rattle.pr_crew.specs.declared.task.Task.{Task};
@@ -17,7 +17,6 @@ ghost use Rattle.pr_story.specs.Merging.{New};
 ghost use Rattle.pr_merge.specs.Holding.{AreAllHere};
 ghost use Rattle.pr_node.specs.Stored.{Stored};
 ghost use Rattle.pr_flow.specs.Downs.{GoesOver, IsLieAt, IsUnsoundFor, flows_of};
-ghost use Rattle.pr_flow.specs.Lies.{IsNoLie};
 ghost use Rattle.pr_flow.specs.declared.stop.Stop.TheVariants as stops;
 ghost use Rattle.pr_script.specs.declared.owner.Owner.{Owner};
 ghost use Rattle.pr_story.specs.Counts.{Declared};
@@ -67,9 +66,7 @@ pub fn phase<R: Threads + Wait + Sync, H: Held<Node = Node>, W: Wires, G: Gate>(
     ensures out { W.out wires.new ≡ W.out wires.old }
     ensures faults { W.faults wires.old ≤ W.faults wires.new }
     ensures sound { W.sound wires.new ≡ W.sound wires.old }
-    ensures no_lie { ((k : ℕ) → IsTrue (W.sound wires.old k)) → IsNoLie result }
     ensures carried { (d : Declared) (h : List NodeEntry) → RepresentsNodes (H.records held.old) d h (H.state held.old) → PhaseCarries (H.records held.new) d h inside.now (H.state held.new) (W.carried wires.old) (W.carried wires.new) result }
-    ensures sound_events { (d : Declared) (h : List NodeEntry) → RepresentsNodes (H.records held.old) d h (H.state held.old) → ((k : ℕ) → IsTrue (W.sound wires.old k)) → AddsSound (H.records held.new) d h (H.state held.new) }
     ensures over { GoesOver W.made W.sound (flows_of (Phase (jobs_of inside.now))) wires.old wires.new result }
     ensures downs { (d : Declared) (h : List NodeEntry) → RepresentsNodes (H.records held.old) d h (H.state held.old) → AddsDownsOf (IsUnsoundFor (W.sound wires.old) (W.made wires.old) (flows_of (Phase (jobs_of inside.now)))) (H.records held.new) d h (H.state held.new) }
 {

@@ -24,7 +24,7 @@ use Rattle.pr_story.proofs.InOrder.{pairs_none}
 use Rattle.pr_story.proofs.JobAfterJob.{AreOfJobs}
 use Rattle.pr_sim.specs.Commands.{IsCause, StepEnds, attached_of}
 use Rattle.pr_sim.specs.Flowing.{FlowEndsSo}
-use Rattle.pr_flow.specs.Lies.{IsLied, IsNoLie}
+use Rattle.pr_flow.specs.Lies.{IsLied}
 use Rattle.pr_sim.specs.Phasing.{CanDo, GivesAll, IsJobLine, JobEnds}
 use Rattle.pr_sim.specs.Running.{IsRunning, Tells}
 use Rattle.pr_story.specs.Counts.{Declared}
@@ -235,35 +235,25 @@ ends_at_once d attached h e jobs q refused is k =
 -- ---- wires
 
 module _ {W : Type 0} (faults_of made out : W → ℕ) (sound : W → ℕ → Bool) where
-  -- at most so many connections were asked for
-  pub record WiresSoFar (most : ℕ) (before now : W) : Type 0 where
-    pub few_made : made now ≤ made before + most
-    pub none_out : out now ≡ out before
-    pub faults_rise : faults_of before ≤ faults_of now
-    pub same_sound : sound now ≡ sound before
-
-  pub wires_same : (w : W) → WiresSoFar 0 w w
+  pub wires_same : (w : W) → StepsByWires faults_of made out sound 0 w w
   wires_same w = record { few_made = omega arith; none_out = refl; faults_rise = omega arith; same_sound = refl }
 
-  pub wires_more : (n : ℕ) (a b c : W) (q : Result Stop NoMemory) → WiresSoFar n a b → StepsByWires faults_of made out sound 1 b c q → WiresSoFar (n + 1) a c
-  wires_more n a b c q so_far then = record {
+  pub wires_more : (n : ℕ) (a b c : W) → StepsByWires faults_of made out sound n a b → StepsByWires faults_of made out sound 1 b c → StepsByWires faults_of made out sound (n + 1) a c
+  wires_more n a b c so_far then = record {
     few_made = let x = so_far.few_made in let y = then.few_made in omega (arith, x, y);
     none_out = then.none_out ∙ so_far.none_out;
     faults_rise = let x = so_far.faults_rise in let y = then.faults_rise in omega (arith, x, y);
     same_sound = then.same_sound ∙ so_far.same_sound;
   }
 
-  pub wires_end : (n : ℕ) (a b : W) (q : Result Stop NoMemory) → WiresSoFar n a b → n ≤ 64 → (((k : ℕ) → IsTrue (sound a k)) → IsNoLie q) → StepsByWires faults_of made out sound 64 a b q
-  wires_end n a b q so_far few no_lie = record {
+  pub wires_end : (n : ℕ) (a b : W) → StepsByWires faults_of made out sound n a b → n ≤ 64 → StepsByWires faults_of made out sound 64 a b
+  wires_end n a b so_far few = record {
     few_made = let x = so_far.few_made in omega (arith, x);
     none_out = so_far.none_out;
     faults_rise = so_far.faults_rise;
     same_sound = so_far.same_sound;
-    no_lie = no_lie;
   }
 
   -- the last job ends the phase
-  pub wires_stop : (n : ℕ) (a b c : W) (q r : Result Stop NoMemory) → q ≡ r → WiresSoFar n a b → n + 1 ≤ 64 → StepsByWires faults_of made out sound 1 b c r → StepsByWires faults_of made out sound 64 a c q
-  wires_stop n a b c q r is so_far few then =
-      wires_end (n + 1) a c q (wires_more n a b c r so_far then) few
-      (λ all. subst (λ (x : Result Stop NoMemory). IsNoLie x) (sym is) (then.no_lie (λ k. subst (λ (s : ℕ → Bool). IsTrue (s k)) (sym so_far.same_sound) (all k))))
+  pub wires_stop : (n : ℕ) (a b c : W) → StepsByWires faults_of made out sound n a b → n + 1 ≤ 64 → StepsByWires faults_of made out sound 1 b c → StepsByWires faults_of made out sound 64 a c
+  wires_stop n a b c so_far few then = wires_end (n + 1) a c (wires_more n a b c so_far then) few

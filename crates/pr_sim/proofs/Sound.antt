@@ -1,7 +1,7 @@
 -- Entries over sound wires.
 use Rattle.std.proofs.Common.{◌≡◌, ℕ, List, [], ◌∷◌, ◌++◌, Result, Ok, Err, refl, sym, ◌∙◌, subst, reverse}
 use Rattle.std.specs.Prelude.{Bool, false, true, IsTrue}
-use Rattle.std.proofs.lemmas.List.{append_assoc, append_cancel_right, reverse-append, reverse-reverse}
+use Rattle.std.proofs.lemmas.List.{reverse-append, reverse-reverse}
 use Rattle.pr_inval.specs.declared.msg.Msg.{Msg}
 use Rattle.pr_inval.specs.declared.node_fault.NodeFault.{NodeFault}
 use Rattle.pr_inval.specs.declared.step.Step.{Step}
@@ -23,11 +23,11 @@ use Rattle.pr_story.specs.History.{NodeEntry}
 use Rattle.pr_story.specs.Turns.{event_of}
 use Rattle.pr_wires.specs.Calls.{WireState}
 use Rattle.pr_sim.specs.Commands.{Grows}
-use Rattle.pr_sim.specs.Running.{IsRunning, Tells}
+use Rattle.pr_sim.specs.Running.{IsRunning}
 use Rattle.pr_sim.specs.Sound.{AddsSound, GrowsSound}
 use Rattle.pr_sim.specs.declared.engine.Engine.{Engine}
 use Rattle.pr_sim.proofs.Flows.{grows_behind}
-use Rattle.pr_sim.proofs.Story.{running_tells, tells_story}
+use Rattle.pr_sim.proofs.Story.{running_tells}
 
 -- ---- lists
 
@@ -91,12 +91,3 @@ adds_of d attached h e P B (Err fault) whole begun (new, tells, is, cause) = (ne
 pub flow_adds_sound : (d : Declared) (attached : ℕ → Bool) (h : List NodeEntry) (e : Engine) (r : Result FlowEnd NodeFault) → GrowsSound d attached h e r → IsSoundEnd r → AddsSound d h e
 flow_adds_sound d attached h e (Ok end) (new, running, is) ends = (new, running_tells d attached (new ++ h) e running, sound_reversed new (is ends))
 flow_adds_sound d attached h e (Err fault) (new, tells, is, cause) ends = (new, tells, sound_reversed new is)
-
--- what was added is one list
-pub same_added : (d : Declared) (attached : ℕ → Bool) (h new : List NodeEntry) (e : Engine) → IsRunning d attached (new ++ h) e → AddsSound d h e → AreSoundEvents new
-same_added d attached h new e running (other, tells, sound) =
-    subst (λ (l : List NodeEntry). AreSoundEvents l) (append_cancel_right other new h (tells_story d (other ++ h) e tells ∙ sym (tells_story d (new ++ h) e (running_tells d attached (new ++ h) e running)))) sound
-
--- sound entries, and then others
-pub adds_more : (d : Declared) (h first : List NodeEntry) (e : Engine) → AreSoundEvents first → AddsSound d (first ++ h) e → AddsSound d h e
-adds_more d h first e front (new, tells, sound) = (new ++ first, subst (λ (g : List NodeEntry). Tells d g e) (sym (append_assoc new first h)) tells, sound_both new first sound front)

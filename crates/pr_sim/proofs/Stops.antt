@@ -1,5 +1,5 @@
 -- How the commands of a script end.
-use Rattle.std.proofs.Common.{◌≡◌, ◌⊎◌, ℕ, ◌+◌, List, [], ◌∷◌, Result, Ok, Err, inl, inr, refl, sym, ap, subst, arith}
+use Rattle.std.proofs.Common.{◌≡◌, ◌⊎◌, ℕ, List, [], ◌∷◌, Result, Ok, Err, inl, inr, refl, sym, ap, subst, arith}
 use Rattle.std.specs.Prelude.{Bool}
 use Rattle.pr_inval.specs.declared.node_fault.NodeFault.{NodeFault}
 use Rattle.pr_inval.specs.declared.node_fault.NodeFault.TheVariants as faults
@@ -15,7 +15,6 @@ use Rattle.pr_story.specs.Scripts.{JobAfterJob, Line, LineGives, Precedes, Singl
 use Rattle.pr_story.proofs.Begun.{nothing_begins}
 use Rattle.pr_story.proofs.InOrder.{pairs_none}
 use Rattle.pr_text.specs.Steps.{line_of}
-use Rattle.pr_flow.specs.Lies.{IsNoLie}
 use Rattle.pr_sim.specs.Commands.{Ends, GivesOne, StepEnds, attached_of}
 use Rattle.pr_sim.specs.Flowing.{FlowEndsSo, StopsByWires}
 use Rattle.pr_sim.specs.Running.{IsRunning}
@@ -65,32 +64,21 @@ module _ (d : Declared) (attached : ℕ → Bool) (h : List NodeEntry) (e : Engi
 
 -- ---- wires
 
-no_lie_stop : (r : Result Stop NodeFault) (q : Result Stop NoMemory) → IsStopOf r q → IsNoLie r → IsNoLie q
-no_lie_stop (Ok stop) q is none = subst (λ (x : Result Stop NoMemory). IsNoLie x) (sym is) none
-no_lie_stop (Err (faults.Worn at)) q is none = subst (λ (x : Result Stop NoMemory). IsNoLie x) (sym is) tt
-no_lie_stop (Err faults.NoMemory) q is none = subst (λ (x : Result Stop NoMemory). IsNoLie x) (sym is) tt
-
-went_no_lie : (r : Result (Unit {0}) NodeFault) → IsNoLie (went_of r)
-went_no_lie (Ok done) = tt
-went_no_lie (Err fault) = tt
-
 module _ {W : Type 0} (faults made out : W → ℕ) (sound : W → ℕ → Bool) where
   -- no connection was asked for
-  pub no_wires : (w : W) (r : Result (Unit {0}) NodeFault) (q : Result Stop NoMemory) → IsStopOf (went_of r) q → StepsByWires faults made out sound 1 w w q
-  no_wires w r q is = record {
+  pub no_wires : (w : W) → StepsByWires faults made out sound 1 w w
+  no_wires w = record {
     few_made = omega arith;
     none_out = refl;
     faults_rise = omega arith;
     same_sound = refl;
-    no_lie = λ sound. no_lie_stop (went_of r) q is (went_no_lie r);
   }
 
   -- one was
-  pub flow_wires : (before now : W) (r : Result Stop NodeFault) (q : Result Stop NoMemory) → IsStopOf r q → StopsByWires faults made out sound before now r → StepsByWires faults made out sound 1 before now q
-  flow_wires before now r q is by = record {
+  pub flow_wires : (before now : W) (r : Result Stop NodeFault) → StopsByWires faults made out sound before now r → StepsByWires faults made out sound 1 before now
+  flow_wires before now r by = record {
     few_made = let e = by.one_more in omega arith;
     none_out = by.none_out;
     faults_rise = by.faults_rise;
     same_sound = by.same_sound;
-    no_lie = λ all. no_lie_stop r q is (by.no_lie (all (made before + 1)));
   }

@@ -1,5 +1,5 @@
 -- What the commands of a script ask of an engine, and when a script's good commands can be run.
-use Rattle.std.specs.Prelude.{ℕ, List, ◌≡◌, ◌≤◌, ◌<◌, ◌+◌, Bool, IsTrue, Result, Ok, Err, length}
+use Rattle.std.specs.Prelude.{ℕ, List, ◌≡◌, ◌≤◌, ◌<◌, ◌+◌, Bool, Result, Ok, Err, length}
 use Rattle.pr_inval.specs.declared.node_fault.NodeFault.{NodeFault}
 use Rattle.pr_inval.specs.declared.node_fault.NodeFault.TheVariants as faults
 use Rattle.pr_flow.specs.declared.stop.Stop.{Stop}
@@ -14,7 +14,6 @@ use Rattle.pr_script.specs.Known.{has_number}
 use Rattle.pr_story.specs.History.{NodeEntry}
 use Rattle.pr_story.specs.Scripts.{attached_after}
 use Rattle.pr_text.specs.Steps.{line_of}
-use Rattle.pr_flow.specs.Lies.{IsNoLie}
 use Rattle.pr_sim.specs.Making.{declared_of}
 use Rattle.pr_sim.specs.Running.{HasAttached, IsRunning}
 use Rattle.pr_sim.specs.declared.engine.Engine.{Engine}
@@ -64,14 +63,13 @@ went_of (Err fault) = Err fault
 
 -- ---- wires
 
--- at most so many connections were asked for and none is out for them; sound ones give no other bytes than were put
+-- at most so many connections were asked for and none is out for them
 module _ {W : Type 0} (faults made out : W → ℕ) (sound : W → ℕ → Bool) where
-  pub record StepsByWires {E : Type 0} (most : ℕ) (before now : W) (stop : Result Stop E) : Type 0 where
+  pub record StepsByWires (most : ℕ) (before now : W) : Type 0 where
     pub few_made : made now ≤ made before + most
     pub none_out : out now ≡ out before
     pub faults_rise : faults before ≤ faults now
     pub same_sound : sound now ≡ sound before
-    pub no_lie : ((k : ℕ) → IsTrue (sound before k)) → IsNoLie stop
 
 -- ---- the commands of a script
 

@@ -6,7 +6,7 @@ ghost use Rattle.pr_sim.specs.Crossing.{JobAdds, PhaseCarries};
 ghost use Rattle.pr_sim.specs.Flowing.{AreFewWires};
 ghost use Rattle.pr_sim.specs.Phasing.{CanDo, CanRunPhase, GivesAll, GoodPhaseCanRun, IsJobLine, JobEnds, asked_by, asked_of};
 ghost use Rattle.pr_sim.specs.Running.{IsKept};
-ghost use Rattle.pr_sim.specs.Sound.{AddsDownsOf, AddsSound};
+ghost use Rattle.pr_sim.specs.Sound.{AddsDownsOf};
 ghost use Rattle.pr_sim.specs.Stepping.{CanRun, StepsByWires};
 ghost use Rattle.pr_story.specs.Scripts.{Phase};
 ghost use Rattle.pr_text.specs.Steps.{job_of, jobs_of};
@@ -36,8 +36,7 @@ impl Engine {
         requires few { W.made wires.old + 64 ≤ 2 ^ 40 }
         ensures steps { ForEachRun self.old (λ d attached h. StepEnds (Phase (jobs_of inside.now)) d attached h self.new result) }
         ensures carried { ForEachRun self.old (λ d attached h. PhaseCarries (jobs_of inside.now) (W.carried wires.old) (W.carried wires.new) d attached h self.new result) }
-        ensures wires { StepsByWires W.faults W.made W.out W.sound 64 wires.old wires.new result }
-        ensures sound_events { ForEachRun self.old (λ d attached h. ((k : ℕ) → IsTrue (W.sound wires.old k)) → AddsSound d h self.new) }
+        ensures wires { StepsByWires W.faults W.made W.out W.sound 64 wires.old wires.new }
         ensures over { GoesOver W.made W.sound (flows_of (Phase (jobs_of inside.now))) wires.old wires.new result }
         ensures downs { ForEachRun self.old (λ d attached h. AddsDownsOf (IsUnsoundFor (W.sound wires.old) (W.made wires.old) (flows_of (Phase (jobs_of inside.now)))) d h self.new) }
     {
@@ -64,8 +63,7 @@ impl Engine {
         requires few { AreFewWires (W.made wires.old) }
         ensures ends { ForEachRun self.old (λ d attached h. JobEnds (job_of inside.now owner) d attached h self.new result) }
         ensures carried { ForEachRun self.old (λ d attached h. JobAdds (job_of inside.now owner) (W.carried wires.old) (W.carried wires.new) d attached h self.new result) }
-        ensures wires { StepsByWires W.faults W.made W.out W.sound 1 wires.old wires.new result }
-        ensures sound_events { ForEachRun self.old (λ d attached h. IsTrue (W.sound wires.old (W.made wires.old + 1)) → AddsSound d h self.new) }
+        ensures wires { StepsByWires W.faults W.made W.out W.sound 1 wires.old wires.new }
         ensures over { GoesOver W.made W.sound (flow_of (job_of inside.now owner)) wires.old wires.new result }
         ensures downs { ForEachRun self.old (λ d attached h. AddsDownsOf (IsUnsoundFor (W.sound wires.old) (W.made wires.old) (flow_of (job_of inside.now owner))) d h self.new) }
     {

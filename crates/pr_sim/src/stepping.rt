@@ -5,7 +5,7 @@ ghost use Rattle.pr_sim.specs.Commands.{Ends, ForEachRun, StepEnds};
 ghost use Rattle.pr_sim.specs.Crossing.{CommandCarries};
 ghost use Rattle.pr_sim.specs.Flowing.{AreFewWires};
 ghost use Rattle.pr_sim.specs.Running.{IsKept};
-ghost use Rattle.pr_sim.specs.Sound.{AddsDownsOf, AddsSound};
+ghost use Rattle.pr_sim.specs.Sound.{AddsDownsOf};
 ghost use Rattle.pr_sim.specs.Stepping.{AttachedTogether, CanRun, GoodCanRun, IsShort, IsStopOf, StepsByWires, went_of};
 ghost use Rattle.pr_text.specs.Steps.{line_of};
 ghost use Rattle.std.specs.Prelude.{◌≡◌, ◌+◌, IsTrue};
@@ -26,8 +26,7 @@ impl Engine {
         requires few { AreFewWires (W.made wires.old) }
         ensures steps { ForEachRun self.old (λ d attached h. StepEnds (line_of command.now) d attached h self.new result) }
         ensures carried { ForEachRun self.old (λ d attached h. CommandCarries command.now (W.carried wires.old) (W.carried wires.new) d attached h self.new result) }
-        ensures wires { StepsByWires W.faults W.made W.out W.sound 1 wires.old wires.new result }
-        ensures sound_events { ForEachRun self.old (λ d attached h. IsTrue (W.sound wires.old (W.made wires.old + 1)) → AddsSound d h self.new) }
+        ensures wires { StepsByWires W.faults W.made W.out W.sound 1 wires.old wires.new }
         ensures over { GoesOver W.made W.sound (flows_of (line_of command.now)) wires.old wires.new result }
         ensures downs { ForEachRun self.old (λ d attached h. AddsDownsOf (IsUnsoundFor (W.sound wires.old) (W.made wires.old) (flows_of (line_of command.now))) d h self.new) }
     {

@@ -4,12 +4,12 @@ use Rattle.pr_crew.specs.Phases.{RepresentsNodes, SameAttached}
 use Rattle.pr_crew.specs.Sound.{AddsDownsOf}
 use Rattle.pr_crew.proofs.Honest.{flows_planned}
 use Rattle.pr_flow.specs.Downs.{GoesOver, IsUnsoundFor, flow_of}
-use Rattle.pr_flow.proofs.Downs.{lie_at_none, none_unsound, refused_over}
+use Rattle.pr_flow.proofs.Downs.{refused_over}
 use Rattle.pr_script.specs.Steps.{owners_of}
 use Rattle.pr_text.specs.Steps.{jobs_of}
 use Rattle.pr_crew.specs.Sites.{IsHere}
 use Rattle.pr_crew.specs.Works.{IsSmall}
-use Rattle.pr_crew.proofs.Phased.{all_here, move_records, nodes_here, none_added, none_carried, planned_now, refused, sound_of, works_many}
+use Rattle.pr_crew.proofs.Phased.{all_here, move_records, nodes_here, none_added, none_carried, planned_now, refused, works_many}
 use Rattle.pr_crew.proofs.phasing.phase.Goals as goal
 
 pub count_nodes-count-requires : goal.count_nodes-count-requires
@@ -80,12 +80,6 @@ returns-in_err-works-clause-over g c = refused_over g.W.Wires.made g.W.Wires.sou
 pub returns-in_err-owners-clause-over : goal.returns-in_err-owners-clause-over
 returns-in_err-owners-clause-over g c = refused_over g.W.Wires.made g.W.Wires.sound (flat_map flow_of (jobs_of c.args.inside.now)) c.args.wires.now c.args.wires.now _ c.from_residual.result (search rules)
 
-pub returns-in_err-room-clause-sound_events : goal.returns-in_err-room-clause-sound_events
-returns-in_err-room-clause-sound_events g c d h r all =
-    sound_of (λ x. IsUnsoundFor (g.W.Wires.sound c.args.wires.now) (g.W.Wires.made c.args.wires.now) (flat_map flow_of (jobs_of c.args.inside.now)) x) (λ d h. g.H.Held.records c.take.new.held d h) d h (g.H.Held.state c.take.new.held) (none_unsound (g.W.Wires.sound c.args.wires.now) all (g.W.Wires.made c.args.wires.now) (flat_map flow_of (jobs_of c.args.inside.now)))
-    (none_added (λ x. IsUnsoundFor (g.W.Wires.sound c.args.wires.now) (g.W.Wires.made c.args.wires.now) (flat_map flow_of (jobs_of c.args.inside.now)) x) (λ d h. g.H.Held.records c.take.new.held d h) d h (g.H.Held.state c.take.new.held)
-    (move_records (λ d h. g.H.Held.records c.args.held.now d h) (λ d h. g.H.Held.records c.take.new.held d h) d h (g.H.Held.state c.take.new.held) (λ keeps. c.take.ensures.records d h keeps) (subst (λ s. RepresentsNodes (λ d h. g.H.Held.records c.args.held.now d h) d h s) (sym c.take.ensures.state) r)))
-
 pub returns-clause-over : goal.returns-clause-over
 returns-clause-over g c =
     let (d, h, r) = c.requires.kept in
@@ -95,21 +89,6 @@ returns-clause-over g c =
 
 pub returns-clause-downs : goal.returns-clause-downs
 returns-clause-downs g c d h r =
-    (subst (λ fs. AddsDownsOf (λ x. IsUnsoundFor (g.W.Wires.sound c.args.wires.now) (g.W.Wires.made c.args.wires.now) fs x) (λ d h. g.H.Held.records c.over_cells.new.held d h) d h (g.H.Held.state c.over_cells.new.held))
-    (flows_planned d.plan h c.count_nodes-count.result c.args.inside.now (owners_of c.args.inside.now) c.as_slice-3.result.now (planned_now (λ d h. g.H.Held.records c.args.held.now d h) (λ d h. g.H.Held.records c.take.new.held d h) d h c.args.inside.now c.in_ok-works.works.items c.as_slice-3.result.now c.count_nodes-count.result c.as_slice.result.now (g.H.Held.state c.args.held.now) (g.H.Held.state c.take.new.held) (λ keeps. c.take.ensures.records d h keeps) r c.requires.can (c.requires.distinct d h r) (c.as_slice.ensures ∙ c.in_ok-owners.ensures) (c.in_ok-works.ensures.works d h r.records_are) c.as_slice-3.ensures.value c.count_nodes-count.ensures c.take.ensures.state).planned)
-    (c.over_cells.ensures.downs d h (planned_now (λ d h. g.H.Held.records c.args.held.now d h) (λ d h. g.H.Held.records c.take.new.held d h) d h c.args.inside.now c.in_ok-works.works.items c.as_slice-3.result.now c.count_nodes-count.result c.as_slice.result.now (g.H.Held.state c.args.held.now) (g.H.Held.state c.take.new.held) (λ keeps. c.take.ensures.records d h keeps) r c.requires.can (c.requires.distinct d h r) (c.as_slice.ensures ∙ c.in_ok-owners.ensures) (c.in_ok-works.ensures.works d h r.records_are) c.as_slice-3.ensures.value c.count_nodes-count.ensures c.take.ensures.state)))
-
-pub returns-clause-no_lie : goal.returns-clause-no_lie
-returns-clause-no_lie g c all =
-    let (d, h, r) = c.requires.kept in
-    let over = (subst (λ fs. GoesOver g.W.Wires.made g.W.Wires.sound fs c.args.wires.now c.over_cells.new.wires c.over_cells.result)
-    (flows_planned d.plan h c.count_nodes-count.result c.args.inside.now (owners_of c.args.inside.now) c.as_slice-3.result.now (planned_now (λ d h. g.H.Held.records c.args.held.now d h) (λ d h. g.H.Held.records c.take.new.held d h) d h c.args.inside.now c.in_ok-works.works.items c.as_slice-3.result.now c.count_nodes-count.result c.as_slice.result.now (g.H.Held.state c.args.held.now) (g.H.Held.state c.take.new.held) (λ keeps. c.take.ensures.records d h keeps) r c.requires.can (c.requires.distinct d h r) (c.as_slice.ensures ∙ c.in_ok-owners.ensures) (c.in_ok-works.ensures.works d h r.records_are) c.as_slice-3.ensures.value c.count_nodes-count.ensures c.take.ensures.state).planned)
-    c.over_cells.ensures.over) in
-    lie_at_none (λ x. IsUnsoundFor (g.W.Wires.sound c.args.wires.now) (g.W.Wires.made c.args.wires.now) (flat_map flow_of (jobs_of c.args.inside.now)) x) (none_unsound (g.W.Wires.sound c.args.wires.now) all (g.W.Wires.made c.args.wires.now) (flat_map flow_of (jobs_of c.args.inside.now))) c.over_cells.result over.lie
-
-pub returns-clause-sound_events : goal.returns-clause-sound_events
-returns-clause-sound_events g c d h r all =
-    sound_of (λ x. IsUnsoundFor (g.W.Wires.sound c.args.wires.now) (g.W.Wires.made c.args.wires.now) (flat_map flow_of (jobs_of c.args.inside.now)) x) (λ d h. g.H.Held.records c.over_cells.new.held d h) d h (g.H.Held.state c.over_cells.new.held) (none_unsound (g.W.Wires.sound c.args.wires.now) all (g.W.Wires.made c.args.wires.now) (flat_map flow_of (jobs_of c.args.inside.now)))
     (subst (λ fs. AddsDownsOf (λ x. IsUnsoundFor (g.W.Wires.sound c.args.wires.now) (g.W.Wires.made c.args.wires.now) fs x) (λ d h. g.H.Held.records c.over_cells.new.held d h) d h (g.H.Held.state c.over_cells.new.held))
     (flows_planned d.plan h c.count_nodes-count.result c.args.inside.now (owners_of c.args.inside.now) c.as_slice-3.result.now (planned_now (λ d h. g.H.Held.records c.args.held.now d h) (λ d h. g.H.Held.records c.take.new.held d h) d h c.args.inside.now c.in_ok-works.works.items c.as_slice-3.result.now c.count_nodes-count.result c.as_slice.result.now (g.H.Held.state c.args.held.now) (g.H.Held.state c.take.new.held) (λ keeps. c.take.ensures.records d h keeps) r c.requires.can (c.requires.distinct d h r) (c.as_slice.ensures ∙ c.in_ok-owners.ensures) (c.in_ok-works.ensures.works d h r.records_are) c.as_slice-3.ensures.value c.count_nodes-count.ensures c.take.ensures.state).planned)
     (c.over_cells.ensures.downs d h (planned_now (λ d h. g.H.Held.records c.args.held.now d h) (λ d h. g.H.Held.records c.take.new.held d h) d h c.args.inside.now c.in_ok-works.works.items c.as_slice-3.result.now c.count_nodes-count.result c.as_slice.result.now (g.H.Held.state c.args.held.now) (g.H.Held.state c.take.new.held) (λ keeps. c.take.ensures.records d h keeps) r c.requires.can (c.requires.distinct d h r) (c.as_slice.ensures ∙ c.in_ok-owners.ensures) (c.in_ok-works.ensures.works d h r.records_are) c.as_slice-3.ensures.value c.count_nodes-count.ensures c.take.ensures.state)))

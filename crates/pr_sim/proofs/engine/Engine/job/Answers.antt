@@ -32,12 +32,6 @@ returns-in-Stream-clause-carried g c d attached h k =
     flow_adds d attached h c.flow.new.self (g.W.Wires.carried c.args.wires.now) (g.W.Wires.carried c.flow.new.wires) c.in-Stream.stream c.turns_of-turns.result (job_of c.args.inside.now c.args.owner) c.flow.result c.stopped.result
     (ap (λ (o : Owner). job_of c.args.inside.now o) c.in-Stream.is ∙ ap (λ (n : ℕ). FlowJob c.in-Stream.stream n) (sym c.turns_of-turns.ensures.turns)) c.stopped.ensures (c.flow.ensures.flowed d attached h k) (c.flow.ensures.carried d attached h k)
 
-pub returns-in-Client-clause-sound_events : goal.returns-in-Client-clause-sound_events
-returns-in-Client-clause-sound_events g c d attached h k sound = client_adds_sound d attached h c.client_job.new.self c.in-Client.client c.args.inside.now c.client_job.result (c.client_job.ensures d attached h k)
-
-pub returns-in-Stream-clause-sound_events : goal.returns-in-Stream-clause-sound_events
-returns-in-Stream-clause-sound_events g c d attached h k sound = c.flow.ensures.sound_events d attached h k sound
-
 pub returns-in-Client-clause-over : goal.returns-in-Client-clause-over
 returns-in-Client-clause-over g c =
     let flows : flow_of (job_of c.args.inside.now c.args.owner) ≡ [] = ap (λ (o : Owner). flow_of (job_of c.args.inside.now o)) c.in-Client.is in

@@ -1,5 +1,5 @@
-use Rattle.std.proofs.Common.{◌≡◌, ℕ, ◌<◌, ◌≤◌, ◌+◌, List, [], ◌++◌, Result, Ok, refl, sym, ◌∙◌, ap, subst, length, get_or, take, drop, arith}
-use Rattle.std.specs.Prelude.{Bool, IsTrue, map, reverse}
+use Rattle.std.proofs.Common.{◌≡◌, ◌<◌, ◌≤◌, ◌+◌, List, [], ◌++◌, Result, Ok, refl, sym, ◌∙◌, ap, subst, length, get_or, take, drop, arith}
+use Rattle.std.specs.Prelude.{map, reverse}
 use Rattle.std.proofs.lemmas.List.{take_all}
 use Rattle.std.proofs.lemmas.Result.{err_from_is_err_and}
 use Rattle.std.specs.List.{flat_map}
@@ -20,7 +20,7 @@ use Rattle.pr_sim.proofs.JobParts.{ends_at_once, ends_there, ends_whole, goes_on
 use Rattle.pr_sim.proofs.JobsInOrder.{lines_can}
 use Rattle.pr_sim.specs.Crossing.{JobAdds, JobsCarry}
 use Rattle.pr_sim.proofs.Carrying.{other_stop, phase_more, phase_none}
-use Rattle.pr_sim.proofs.Sound.{adds_more, nothing_added, same_added}
+use Rattle.pr_sim.proofs.Sound.{nothing_added}
 use Rattle.pr_sim.specs.Sound.{AddsDownsOf}
 use Rattle.pr_sim.proofs.WireDowns.{downs_next, flows_split, made_next, over_there, sound_adds}
 use Rattle.pr_flow.proofs.Downs.{refused_over}
@@ -38,7 +38,6 @@ loop-owner-init g c = record {
   can = owners_can c.args.self.now c.args.inside.now c.requires.can.lines;
   given = λ d attached h k. ([], k, refl);
   carried = λ d attached h k. ([], k, (refl, refl));
-  sounds = λ all d attached h k. nothing_added d attached h c.args.self.now k;
   downs = λ d attached h k. sound_adds (λ x. IsUnsoundFor (g.W.Wires.sound c.args.wires.now) (g.W.Wires.made c.args.wires.now) [] x) d h c.args.self.now (nothing_added d attached h c.args.self.now k);
   made = omega arith;
   wires = wires_same g.W.Wires.faults g.W.Wires.made g.W.Wires.out g.W.Wires.sound c.args.wires.now;
@@ -79,12 +78,11 @@ returns-in_default g c =
           (map_split (job_of inside) os i o (owner.Client 0) lt is) (λ went. c.in_default.not-Went (ok_same c.in_ok-stop.stop stops.Went (Ok c.in_ok-stop.stop) refl went))
           (c.in_ok-stop.ensures.ends d attached (first.0 ++ h) first.1);
       carried = λ d attached h k. other_stop d attached h c.job.new.self (g.W.Wires.carried c.args.wires.now) (g.W.Wires.carried c.job.new.wires) (jobs_of inside) c.in_ok-stop.stop c.in_default.not-Went;
-      wires = wires_stop g.W.Wires.faults g.W.Wires.made g.W.Wires.out g.W.Wires.sound i c.args.wires.now c.loop-owner.wires c.job.new.wires (Ok c.in_ok-stop.stop) (Ok c.in_ok-stop.stop) refl l.wires
+      wires = wires_stop g.W.Wires.faults g.W.Wires.made g.W.Wires.out g.W.Wires.sound i c.args.wires.now c.loop-owner.wires c.job.new.wires l.wires
           (let most = c.requires.can.jobs in omega (arith, most, lt)) c.in_ok-stop.ensures.wires;
       over = over_there made sound c.args.wires.now c.loop-owner.wires c.job.new.wires (flat_map flow_of (map (job_of inside) (take i os))) (flow_of (job_of inside o)) (flat_map flow_of (map (job_of inside) (drop (i + 1) os))) (flat_map flow_of (jobs_of inside)) l.wires.same_sound (flows_split (jobs_of inside) (map (job_of inside) (take i os)) (job_of inside o) (map (job_of inside) (drop (i + 1) os)) (map_split (job_of inside) os i o (owner.Client 0) lt is)) l.made
           (Ok c.in_ok-stop.stop) (λ went. c.in_default.not-Went (ok_same c.in_ok-stop.stop stops.Went (Ok c.in_ok-stop.stop) refl went)) c.in_ok-stop.ensures.over;
       downs = λ d attached h k. let first = l.given d attached h k in downs_next (sound c.args.wires.now) (sound c.loop-owner.wires) (made c.args.wires.now) (made c.loop-owner.wires) (flat_map flow_of (map (job_of inside) (take i os))) (flow_of (job_of inside o)) (flat_map flow_of (map (job_of inside) (drop (i + 1) os))) (flat_map flow_of (jobs_of inside)) l.wires.same_sound (flows_split (jobs_of inside) (map (job_of inside) (take i os)) (job_of inside o) (map (job_of inside) (drop (i + 1) os)) (map_split (job_of inside) os i o (owner.Client 0) lt is)) l.made d attached h first.0 c.loop-owner.self c.job.new.self first.1 (l.downs d attached h k) (c.job.ensures.downs d attached (first.0 ++ h) first.1);
-      sound_events = λ d attached h k all. let first = l.given d attached h k in adds_more d h first.0 c.job.new.self (same_added d attached h first.0 c.loop-owner.self first.1 (l.sounds all d attached h k)) (c.job.ensures.sound_events d attached (first.0 ++ h) first.1 (subst (λ (sound : ℕ → Bool). IsTrue (sound (g.W.Wires.made c.loop-owner.wires + 1))) (sym l.wires.same_sound) (all (g.W.Wires.made c.loop-owner.wires + 1))));
     }
 
 pub loop-owner-preserved : goal.loop-owner-preserved
@@ -117,8 +115,7 @@ loop-owner-preserved g c =
           (on.0, on.1, subst (λ (js : List Job). JobsCarry js (reverse on.0) (carried c.args.wires.now) (carried c.job.new.wires)) (sym (map_more (job_of inside) os i o (owner.Client 0) lt is)) on.2);
       downs = λ d attached h k. let first = l.given d attached h k in downs_next (sound c.args.wires.now) (sound c.loop-owner.wires) (made c.args.wires.now) (made c.loop-owner.wires) (flat_map flow_of (map (job_of inside) (take i os))) (flow_of (job_of inside o)) [] (flat_map flow_of (map (job_of inside) (take (i + 1) os))) l.wires.same_sound (flows_split (map (job_of inside) (take (i + 1) os)) (map (job_of inside) (take i os)) (job_of inside o) [] (map_more (job_of inside) os i o (owner.Client 0) lt is)) l.made d attached h first.0 c.loop-owner.self c.job.new.self first.1 (l.downs d attached h k) (c.job.ensures.downs d attached (first.0 ++ h) first.1);
       made = made_next made sound c.args.wires.now c.loop-owner.wires c.job.new.wires (flat_map flow_of (map (job_of inside) (take i os))) (flow_of (job_of inside o)) [] (flat_map flow_of (map (job_of inside) (take (i + 1) os))) l.wires.same_sound (flows_split (map (job_of inside) (take (i + 1) os)) (map (job_of inside) (take i os)) (job_of inside o) [] (map_more (job_of inside) os i o (owner.Client 0) lt is)) l.made refl (c.in_ok-stop.ensures.over.each_made (ap (λ (x : Stop). Ok x) c.in-Went.is));
-      sounds = λ all d attached h r. let first = l.given d attached h r in adds_more d h first.0 c.job.new.self (same_added d attached h first.0 c.loop-owner.self first.1 (l.sounds all d attached h r)) (c.job.ensures.sound_events d attached (first.0 ++ h) first.1 (subst (λ (sound : ℕ → Bool). IsTrue (sound (g.W.Wires.made c.loop-owner.wires + 1))) (sym l.wires.same_sound) (all (g.W.Wires.made c.loop-owner.wires + 1))));
-      wires = wires_more g.W.Wires.faults g.W.Wires.made g.W.Wires.out g.W.Wires.sound i c.args.wires.now c.loop-owner.wires c.job.new.wires (Ok c.in_ok-stop.stop) l.wires c.in_ok-stop.ensures.wires;
+      wires = wires_more g.W.Wires.faults g.W.Wires.made g.W.Wires.out g.W.Wires.sound i c.args.wires.now c.loop-owner.wires c.job.new.wires l.wires c.in_ok-stop.ensures.wires;
     }
 
 pub returns-clause-steps : goal.returns-clause-steps
@@ -141,17 +138,6 @@ returns-clause-carried g c d attached h k =
     let past = subst (λ (os : List Owner). length os ≤ c.loop-owner.owner-index) (c.as_slice-owner-items.ensures ∙ c.in_ok-owners.ensures) c.loop-owner-test.false in
     subst (λ (os : List Owner). (new : List NodeEntry) × IsRunning d attached (new ++ h) c.loop-owner.self × JobsCarry (map (job_of c.args.inside.now) os) (reverse new) (g.W.Wires.carried c.args.wires.now) (g.W.Wires.carried c.loop-owner.wires))
     (take_all c.loop-owner.owner-index (owners_of c.args.inside.now) past) (c.loop-owner.invariant.carried d attached h k)
-
-pub returns-in_err-owners-clause-sound_events : goal.returns-in_err-owners-clause-sound_events
-returns-in_err-owners-clause-sound_events g c d attached h k all = nothing_added d attached h c.args.self.now k
-
-pub returns-in_err-stop-clause-sound_events : goal.returns-in_err-stop-clause-sound_events
-returns-in_err-stop-clause-sound_events g c d attached h k all =
-    let l = c.loop-owner.invariant in
-    let first = l.given d attached h k in adds_more d h first.0 c.job.new.self (same_added d attached h first.0 c.loop-owner.self first.1 (l.sounds all d attached h k)) (c.job.ensures.sound_events d attached (first.0 ++ h) first.1 (subst (λ (sound : ℕ → Bool). IsTrue (sound (g.W.Wires.made c.loop-owner.wires + 1))) (sym l.wires.same_sound) (all (g.W.Wires.made c.loop-owner.wires + 1))))
-
-pub returns-clause-sound_events : goal.returns-clause-sound_events
-returns-clause-sound_events g c d attached h k all = c.loop-owner.invariant.sounds all d attached h k
 
 pub returns-in_err-owners-clause-over : goal.returns-in_err-owners-clause-over
 returns-in_err-owners-clause-over g c =

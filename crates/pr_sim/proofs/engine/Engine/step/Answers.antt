@@ -24,8 +24,7 @@ pub returns-in_default : goal.returns-in_default
 returns-in_default g c = record {
   steps = λ d attached h k. ends_step d attached h c.run.new.self (line_of c.args.command.now) c.run.result c.went-in_default.result c.went-in_default.ensures (c.run.ensures d attached h k);
   carried = λ d attached h k. none_said d attached h c.run.new.self c.args.command.now (g.W.Wires.carried c.args.wires.now) c.went-in_default.result (search rules);
-  wires = no_wires g.W.Wires.faults g.W.Wires.made g.W.Wires.out g.W.Wires.sound c.args.wires.now c.run.result c.went-in_default.result c.went-in_default.ensures;
-  sound_events = λ d attached h k sound. short_adds d attached h c.run.new.self c.args.command.now c.run.result (search rules) (c.run.ensures d attached h k);
+  wires = no_wires g.W.Wires.faults g.W.Wires.made g.W.Wires.out g.W.Wires.sound c.args.wires.now;
   over = subst (λ (fs : List ℕ). GoesOver g.W.Wires.made g.W.Wires.sound fs c.args.wires.now c.args.wires.now c.went-in_default.result) (sym (none_flow c.args.command.now (search rules)))
       (none_over g.W.Wires.faults g.W.Wires.made g.W.Wires.out g.W.Wires.sound c.args.wires.now c.run.result c.went-in_default.result c.went-in_default.ensures);
   downs = λ d attached h k.
@@ -40,12 +39,6 @@ returns-in-Flow-clause-carried g c d attached h k =
 
 pub returns-in-Settle-clause-carried : goal.returns-in-Settle-clause-carried
 returns-in-Settle-clause-carried g c d attached h k = settle_said d attached h c.settle.new.self c.args.command.now (g.W.Wires.carried c.args.wires.now) c.went.result c.in-Settle.is
-
-pub returns-in-Flow-clause-sound_events : goal.returns-in-Flow-clause-sound_events
-returns-in-Flow-clause-sound_events g c d attached h k sound = c.flow.ensures.sound_events d attached h k sound
-
-pub returns-in-Settle-clause-sound_events : goal.returns-in-Settle-clause-sound_events
-returns-in-Settle-clause-sound_events g c d attached h k sound = line_adds d attached h c.settle.new.self Settle c.settle.result tt (c.settle.ensures.ends d attached h k)
 
 pub returns-in-Flow-clause-over : goal.returns-in-Flow-clause-over
 returns-in-Flow-clause-over g c =
