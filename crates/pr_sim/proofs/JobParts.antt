@@ -24,7 +24,7 @@ use Rattle.pr_story.proofs.InOrder.{pairs_none}
 use Rattle.pr_story.proofs.JobAfterJob.{AreOfJobs}
 use Rattle.pr_sim.specs.Commands.{IsCause, StepEnds, attached_of}
 use Rattle.pr_sim.specs.Flowing.{FlowEndsSo}
-use Rattle.pr_flow.specs.Lies.{IsLied, IsNoLie}
+use Rattle.pr_flow.specs.Lies.{IsLied}
 use Rattle.pr_sim.specs.Phasing.{CanDo, GivesAll, IsJobLine, JobEnds}
 use Rattle.pr_sim.specs.Running.{IsRunning, Tells}
 use Rattle.pr_story.specs.Counts.{Declared}

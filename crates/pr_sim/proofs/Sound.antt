@@ -1,7 +1,7 @@
 -- Entries over sound wires.
 use Rattle.std.proofs.Common.{◌≡◌, ℕ, List, [], ◌∷◌, ◌++◌, Result, Ok, Err, refl, sym, ◌∙◌, subst, reverse}
 use Rattle.std.specs.Prelude.{Bool, false, true, IsTrue}
-use Rattle.std.proofs.lemmas.List.{append_assoc, append_cancel_right, reverse-append, reverse-reverse}
+use Rattle.std.proofs.lemmas.List.{reverse-append, reverse-reverse}
 use Rattle.pr_inval.specs.declared.msg.Msg.{Msg}
 use Rattle.pr_inval.specs.declared.node_fault.NodeFault.{NodeFault}
 use Rattle.pr_inval.specs.declared.step.Step.{Step}
@@ -23,11 +23,11 @@ use Rattle.pr_story.specs.History.{NodeEntry}
 use Rattle.pr_story.specs.Turns.{event_of}
 use Rattle.pr_wires.specs.Calls.{WireState}
 use Rattle.pr_sim.specs.Commands.{Grows}
-use Rattle.pr_sim.specs.Running.{IsRunning, Tells}
+use Rattle.pr_sim.specs.Running.{IsRunning}
 use Rattle.pr_sim.specs.Sound.{AddsSound, GrowsSound}
 use Rattle.pr_sim.specs.declared.engine.Engine.{Engine}
 use Rattle.pr_sim.proofs.Flows.{grows_behind}
-use Rattle.pr_sim.proofs.Story.{running_tells, tells_story}
+use Rattle.pr_sim.proofs.Story.{running_tells}
 
 -- ---- lists
 

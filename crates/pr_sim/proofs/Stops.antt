@@ -1,5 +1,5 @@
 -- How the commands of a script end.
-use Rattle.std.proofs.Common.{◌≡◌, ◌⊎◌, ℕ, ◌+◌, List, [], ◌∷◌, Result, Ok, Err, inl, inr, refl, sym, ap, subst, arith}
+use Rattle.std.proofs.Common.{◌≡◌, ◌⊎◌, ℕ, List, [], ◌∷◌, Result, Ok, Err, inl, inr, refl, sym, ap, subst, arith}
 use Rattle.std.specs.Prelude.{Bool}
 use Rattle.pr_inval.specs.declared.node_fault.NodeFault.{NodeFault}
 use Rattle.pr_inval.specs.declared.node_fault.NodeFault.TheVariants as faults
@@ -15,7 +15,6 @@ use Rattle.pr_story.specs.Scripts.{JobAfterJob, Line, LineGives, Precedes, Singl
 use Rattle.pr_story.proofs.Begun.{nothing_begins}
 use Rattle.pr_story.proofs.InOrder.{pairs_none}
 use Rattle.pr_text.specs.Steps.{line_of}
-use Rattle.pr_flow.specs.Lies.{IsNoLie}
 use Rattle.pr_sim.specs.Commands.{Ends, GivesOne, StepEnds, attached_of}
 use Rattle.pr_sim.specs.Flowing.{FlowEndsSo, StopsByWires}
 use Rattle.pr_sim.specs.Running.{IsRunning}

@@ -1,5 +1,5 @@
 -- What the commands of a script ask of an engine, and when a script's good commands can be run.
-use Rattle.std.specs.Prelude.{ℕ, List, ◌≡◌, ◌≤◌, ◌<◌, ◌+◌, Bool, IsTrue, Result, Ok, Err, length}
+use Rattle.std.specs.Prelude.{ℕ, List, ◌≡◌, ◌≤◌, ◌<◌, ◌+◌, Bool, Result, Ok, Err, length}
 use Rattle.pr_inval.specs.declared.node_fault.NodeFault.{NodeFault}
 use Rattle.pr_inval.specs.declared.node_fault.NodeFault.TheVariants as faults
 use Rattle.pr_flow.specs.declared.stop.Stop.{Stop}

@@ -39,8 +39,8 @@ abbrev pub StopsJobs : Order → Script → List NodeEntry → Result Stop NoMem
 StopsJobs JobAfterJob s h stop = Unit {0}
 StopsJobs ByTime s h stop = HasStoppedJobs s h stop
 
--- why the run ended at some place: behind that many entries a node is worn; or a flow of the stream has a connection that
--- is not sound, and for the stream's last message other bytes came than were put
+-- why the run ended at some place: behind that many entries a node is worn; or a flow of the stream has a connection
+-- that is not sound, and for the stream's last message other bytes came than were put
 abbrev pub IsWorn : Order → Script → List NodeEntry → ℕ → Type 0
 IsWorn order s h at = (at ≡ 4611686018427387903) × (4611686018427387903 ≤ length h) × StopsJobs order s h (Ok (stops.Worn at))
 

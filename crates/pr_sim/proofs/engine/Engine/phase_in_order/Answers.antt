@@ -1,5 +1,5 @@
-use Rattle.std.proofs.Common.{◌≡◌, ℕ, ◌<◌, ◌≤◌, ◌+◌, List, [], ◌++◌, Result, Ok, refl, sym, ◌∙◌, ap, subst, length, get_or, take, drop, arith}
-use Rattle.std.specs.Prelude.{Bool, IsTrue, map, reverse}
+use Rattle.std.proofs.Common.{◌≡◌, ◌<◌, ◌≤◌, ◌+◌, List, [], ◌++◌, Result, Ok, refl, sym, ◌∙◌, ap, subst, length, get_or, take, drop, arith}
+use Rattle.std.specs.Prelude.{map, reverse}
 use Rattle.std.proofs.lemmas.List.{take_all}
 use Rattle.std.proofs.lemmas.Result.{err_from_is_err_and}
 use Rattle.std.specs.List.{flat_map}

@@ -1,4 +1,4 @@
-use Rattle.std.specs.Prelude.{ℕ, List, ◌++◌, ◌≡◌, ◌+◌, Bool, IsTrue, length, map, reverse, take}
+use Rattle.std.specs.Prelude.{ℕ, List, ◌++◌, ◌≡◌, ◌+◌, Bool, length, map, reverse, take}
 use Rattle.std.specs.List.{AllByRecursion, flat_map}
 use Rattle.pr_flow.specs.Downs.{IsUnsoundFor, flow_of}
 use Rattle.pr_script.specs.Steps.{owners_of}
@@ -9,7 +9,7 @@ use Rattle.pr_text.specs.Steps.{job_of}
 use Rattle.pr_sim.specs.Crossing.{JobsCarry}
 use Rattle.pr_sim.specs.Phasing.{CanDo, IsJobLine}
 use Rattle.pr_sim.specs.Running.{IsKept, IsRunning}
-use Rattle.pr_sim.specs.Sound.{AddsDownsOf, AddsSound}
+use Rattle.pr_sim.specs.Sound.{AddsDownsOf}
 use Rattle.pr_story.specs.Counts.{Declared}
 use Rattle.pr_sim.specs.Stepping.{StepsByWires}
 use Rattle.pr_sim.proofs.engine.Engine.phase_in_order.Given as goal
