@@ -71,10 +71,6 @@ module _ (P : ℕ → Type 0) where
   no_lie_at (Ok (stops.Lied stream number sent got)) none = absurd none
   no_lie_at _ none = tt
 
-  pub lie_at_none : {E : Type 0} → ((s : ℕ) → P s → ⊥) → (q : Result Stop E) → IsLieAt P q → IsNoLie q
-  lie_at_none none (Ok (stops.Lied stream number sent got)) at = none stream at
-  lie_at_none none _ at = tt
-
 pub downs_more : (P Q : ℕ → Type 0) → ((s : ℕ) → P s → Q s) → (es : List NodeEntry) → AreDownsOf P es → AreDownsOf Q es
 downs_more P Q more [] a = tt
 downs_more P Q more (e ∷ es) a = (down_more P Q more e.entry.event a.0, downs_more P Q more es a.1)
