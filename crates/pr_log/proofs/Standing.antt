@@ -1,11 +1,11 @@
 -- The sets that stand at clocks, where sets begin, end or change.
-use Rattle.std.proofs.Common.{◌≡◌, ℕ, ◌≤◌, ◌<◌, ◌-◌, zero, suc, List, Option, None, Some, Bool, true, false, refl, sym, ◌∙◌, ap, subst, arith, inl, inr, ◌||◌, ◌&&◌, not}
+use Rattle.std.proofs.Common.{◌≡◌, ◌+◌, ℕ, ◌≤◌, ◌<◌, ◌-◌, zero, suc, List, Option, None, Some, Bool, true, false, refl, sym, ◌∙◌, ap, subst, arith, inl, inr, ◌||◌, ◌&&◌, not}
 use Rattle.std.specs.Prelude.{◌⊎◌}
 use Rattle.std.specs.Option.{IsSome, option_or}
 use Rattle.pr_names.specs.Name.{IsName}
 use Rattle.pr_names.specs.Span.{Span}
 use Rattle.pr_sets.specs.Spans.{has}
-use Rattle.pr_log.specs.Sets.{standing, lacks, IsNarrowed}
+use Rattle.pr_log.specs.Sets.{standing, lacks, IsNarrowed, BeginsOrStands}
 use Rattle.pr_log.proofs.Places.{this_or_other}
 
 not_not : (b : Bool) → not (not b) ≡ b
@@ -135,3 +135,41 @@ narrowed_above f g end some kept c le = dropped f g end (some_of (f end) some) (
         nothing : IsSome {T = List Span} None → ⊥
         nothing e = cc
     is_some_of (Some s) h = refl
+
+-- ---- a set begins later, and what is left of it, if that is new, where it began
+
+stays_after : (f g : ℕ → Option (List Span)) (end : ℕ) → standing g end ≡ standing f end → ((k : ℕ) → end < k → g k ≡ f k) → (c : ℕ) → end ≤ c → standing g c ≡ standing f c
+unfolding standing
+stays_after f g end same kept zero le = subst (λ k. standing g k ≡ standing f k) (is_zero end le) same
+  where
+    is_zero : (end : ℕ) → end ≤ 0 → end ≡ 0
+    is_zero end le = omega arith
+stays_after f g end same kept (suc c) le = elim (up_or_last end c le) [
+  | inl more ↦ ap (λ x. option_or x (standing g c)) (kept (suc c) (omega (arith, more))) ∙ ap (option_or (f (suc c))) (stays_after f g end same kept c more)
+  | inr now ↦ subst (λ k. standing g k ≡ standing f k) now same
+]
+
+-- what stands at a clock where nothing begins
+none_here : (g : ℕ → Option (List Span)) (lo : ℕ) → 1 ≤ lo → g lo ≡ None → standing g lo ≡ standing g (lo - 1)
+none_here g lo one none = stands_on g (lo - 1) lo (omega arith) (λ t above within. subst (λ k. g k ≡ None) (omega (arith, above, within, one)) none)
+
+begun_lit : (g : ℕ → Option (List Span)) (lo : ℕ) (left : List Span) (o : List ℕ) → IsName o → 1 ≤ lo → BeginsOrStands g lo left → lacks (standing g lo) o ≡ not (has left o)
+begun_lit g lo left o name one (inl is) = ap (λ x. lacks x o) (here g lo left is)
+begun_lit g lo left o name one (inr (none, was, before, same)) = ap (λ x. lacks x o) (none_here g lo one none ∙ before) ∙ ap not (same o name)
+
+pub put_off_within : (f m g : ℕ → Option (List Span)) (lo hi : ℕ) (set left target : List Span) (o : List ℕ) → IsName o → 1 ≤ lo → f lo ≡ Some set → ((t : ℕ) → lo < t → t ≤ hi + 1 → f t ≡ None) → has left o ≡ (has set o && has target o) → BeginsOrStands m lo left → ((k : ℕ) → ¬ (k ≡ lo) → m k ≡ f k) → ((k : ℕ) → ¬ (k ≡ hi + 1) → g k ≡ m k) → (c : ℕ) → lo ≤ c → c ≤ hi → lacks (standing g c) o ≡ (lacks (standing f c) o || not (has target o))
+put_off_within f m g lo hi set left target o name one is none names begins kept rest c le within =
+    ap (λ x. lacks x o)
+    (same_up_to m g c (λ k to. rest k (λ e. omega (arith, e, to, within)))
+    ∙ stands_on m lo c le (λ t above to. kept t (λ e. omega (arith, e, above)) ∙ none t above (omega (arith, to, within))))
+    ∙ begun_lit m lo left o name one begins
+    ∙ ap not names ∙ narrow_not (has set o) (has target o)
+    ∙ ap (λ x. lacks x o || not (has target o)) (sym (stands_on f lo c le (λ t above to. none t above (omega (arith, to, within))) ∙ here f lo set is))
+
+pub put_off_others : (f m g : ℕ → Option (List Span)) (lo hi : ℕ) (set : List Span) → lo ≤ hi → f lo ≡ Some set → ((t : ℕ) → lo < t → t ≤ hi + 1 → f t ≡ None) → ((k : ℕ) → ¬ (k ≡ lo) → m k ≡ f k) → g (hi + 1) ≡ Some set → ((k : ℕ) → ¬ (k ≡ hi + 1) → g k ≡ m k) → (c : ℕ) → (c < lo) ⊎ (hi < c) → standing g c ≡ standing f c
+put_off_others f m g lo hi set order is none kept end rest c (inl below) =
+    same_up_to f g c (λ k le. rest k (λ e. omega (arith, e, le, below, order)) ∙ kept k (λ e. omega (arith, e, le, below)))
+put_off_others f m g lo hi set order is none kept end rest c (inr above) =
+    stays_after f g (hi + 1)
+    (here g (hi + 1) set end ∙ sym (stands_on f lo (hi + 1) (omega (arith, order)) none ∙ here f lo set is))
+    (λ k lt. rest k (λ e. omega (arith, e, lt)) ∙ kept k (λ e. omega (arith, e, lt, order))) c (omega (arith, above))

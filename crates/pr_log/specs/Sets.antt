@@ -1,5 +1,5 @@
 -- The dark names of one writer's points, by the clocks at which they change.
-use Rattle.std.specs.Prelude.{◌≡◌, ◌≤◌, ◌&&◌, ◌||◌, ℕ, Bool, false, not, zero, suc, List, Option, None, Some}
+use Rattle.std.specs.Prelude.{◌≡◌, ◌≤◌, ◌-◌, ◌⊎◌, ◌&&◌, ◌||◌, ℕ, Bool, false, not, zero, suc, List, Option, None, Some}
 use Rattle.std.specs.List.{list_any}
 use Rattle.std.specs.Str.{bytes_eq}
 use Rattle.std.specs.Map.{lookup}
@@ -30,6 +30,12 @@ is_lit_at row o c = lacks (standing (begins_at row) c) o
 -- the name is dark at one of the clocks
 abbrev pub IsDarkAt : List (ℕ × List Span) → ℕ → ℕ → List ℕ → Type 0
 IsDarkAt row lo hi o = (c : ℕ) × (lo ≤ c) × (c ≤ hi) × (is_lit_at row o c ≡ false)
+
+-- the set begins at the clock, or the one that stands before it has the same names
+abbrev pub BeginsOrStands : (ℕ → Option (List Span)) → ℕ → List Span → Type 0
+BeginsOrStands begins c set =
+    (begins c ≡ Some set)
+    ⊎ ((begins c ≡ None) × (was : List Span) × (standing begins (c - 1) ≡ Some was) × ((o : List ℕ) → IsName o → has was o ≡ has set o))
 
 -- the set that begins, if any, keeps just the names of the target
 abbrev pub IsNarrowed : List Span → Option (List Span) → Option (List Span) → Type 0

@@ -5,7 +5,7 @@ ghost use Rattle.pr_log.specs.Sets.{is_gathered};
 ghost use Rattle.pr_names.specs.Name.{IsName};
 ghost use Rattle.pr_names.specs.Span.{IsSpan, holds};
 ghost use Rattle.pr_sets.specs.Spans.{has};
-ghost use Rattle.std.specs.Prelude.{◌≡◌, ◌⊎◌, ◌↔◌, ℕ, List, [], IsTrue, IfOk, OnErr, OnOk, false};
+ghost use Rattle.std.specs.Prelude.{◌≡◌, ◌+◌, ◌⊎◌, ◌↔◌, ℕ, List, [], IsTrue, IfOk, OnErr, OnOk, false};
 
 use crate::collector::{Collector, put_outside};
 use pr_names::{Interval, Name};
@@ -117,7 +117,10 @@ impl Latest {
 }
 
 // Takes one of what is left; whether there was one.
-fn take_one(left: &mut usize) -> bool {
+fn take_one(left: &mut usize) -> bool
+    ensures one { IsTrue result → left.old ≡ left.new + 1 }
+    ensures none { result ≡ false → (left.old ≡ 0) × (left.new ≡ 0) }
+{
     if *left == 0 {
         return false;
     }

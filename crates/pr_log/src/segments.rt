@@ -1,12 +1,12 @@
 // The dark names of one node's points.
-ghost use Rattle.pr_log.specs.Sets.{IsDarkAt, IsNarrowed, begins_at, is_gathered, is_lit_at, standing};
+ghost use Rattle.pr_log.specs.Sets.{BeginsOrStands, IsDarkAt, IsNarrowed, begins_at, is_gathered, is_lit_at, standing};
 ghost use Rattle.pr_names.specs.Name.{IsName};
 ghost use Rattle.pr_names.specs.Span.{Span};
 ghost use Rattle.pr_sets.specs.Spans.{has};
 ghost use Rattle.std.specs.BTreeMap.Range.{IsLeBy};
 ghost use Rattle.std.specs.Option.{option_copied};
 ghost use Rattle.std.specs.Ordering.{is_lt, nat_cmp};
-ghost use Rattle.std.specs.Prelude.{◌≡◌, ◌≤◌, ◌<◌, ◌-◌, ◌⊎◌, ◌↔◌, ◌||◌, ℕ, List, [], not, IfNone, IfOk, IfSome, IsSome, IsTrue, OnOk, None, Some, false};
+ghost use Rattle.std.specs.Prelude.{◌≡◌, ◌≤◌, ◌<◌, ◌+◌, ◌-◌, ◌⊎◌, ◌↔◌, ◌||◌, ℕ, List, [], not, IfNone, IfOk, IfSome, IsSome, IsTrue, OnOk, None, Some, false};
 
 use crate::collector::{Collector, every_name};
 use pr_sets::NameSet;
@@ -54,6 +54,9 @@ impl Segments {
         ensures within { OnOk result ((o : List ℕ) (c : ℕ) → IsName o → lo ≤ c → c ≤ hi → is_lit_at self.new o c ≡ (is_lit_at self.old o c || not (has target.now o))) }
         ensures others { OnOk result ((o : List ℕ) (c : ℕ) → IsName o → (c < lo) ⊎ (hi < c) → is_lit_at self.new o c ≡ is_lit_at self.old o c) }
     {
+        if stands_past(&self.sets, lo, hi) {
+            return put_off(&mut self.sets, self.alloc, lo, hi, target);
+        }
         split(&mut self.sets, self.alloc, lo)?;
         split(&mut self.sets, self.alloc, hi + 1)?;
         narrow(&mut self.sets, self.alloc, lo, hi, target)?;
@@ -85,6 +88,68 @@ impl Segments {
             clock = start;
         }
         Ok(())
+    }
+}
+
+// Whether a set begins at `lo` and stands up to past `hi`, as where the points come behind all that were told before.
+fn stands_past(sets: &Map, lo: u64, hi: u64) -> bool
+    requires { hi ≤ 4611686018427387903 }
+    ensures here { IsTrue result → IsSome (begins_at sets.now.entries lo) }
+    ensures none { IsTrue result → (c : ℕ) → lo < c → c ≤ hi + 1 → begins_at sets.now.entries c ≡ None }
+{
+    match last_entry(sets, hi + 1) {
+        Some((start, _)) => start == lo,
+        None => false,
+    }
+}
+
+// The set that begins at `lo` begins behind `hi`, and what it shares with the target begins at `lo`, unless the set before
+// it has the same names.
+fn put_off(
+    sets: &mut Map,
+    alloc: Global,
+    lo: u64,
+    hi: u64,
+    target: &NameSet,
+) -> Result<(), NoMemory>
+    requires some { 1 ≤ lo }
+    requires order { lo ≤ hi }
+    requires most { hi ≤ 4611686018427387903 }
+    requires here { IsSome (begins_at sets.old.entries lo) }
+    requires none { (c : ℕ) → lo < c → c ≤ hi + 1 → begins_at sets.old.entries c ≡ None }
+    ensures within { OnOk result ((o : List ℕ) (c : ℕ) → IsName o → lo ≤ c → c ≤ hi → is_lit_at sets.new.entries o c ≡ (is_lit_at sets.old.entries o c || not (has target.now o))) }
+    ensures others { OnOk result ((o : List ℕ) (c : ℕ) → IsName o → (c < lo) ⊎ (hi < c) → is_lit_at sets.new.entries o c ≡ is_lit_at sets.old.entries o c) }
+{
+    let Some(set) = sets.remove(&lo) else {
+        return Ok(());
+    };
+    let left = set.intersect(alloc, target)?;
+    begin(sets, lo, left)?;
+    sets.insert(hi + 1, set)?;
+    Ok(())
+}
+
+// The set begins at the clock, unless the one before it has the same names.
+fn begin(sets: &mut Map, clock: u64, set: NameSet) -> Result<(), NoMemory>
+    requires some { 1 ≤ clock }
+    requires none { begins_at sets.old.entries clock ≡ None }
+    ensures begins { OnOk result (BeginsOrStands (begins_at sets.new.entries) clock set) }
+    ensures others { OnOk result ((c : ℕ) → ¬ (c ≡ clock) → begins_at sets.new.entries c ≡ begins_at sets.old.entries c) }
+{
+    if stands_at(sets, clock - 1, &set) {
+        return Ok(());
+    }
+    sets.insert(clock, set)?;
+    Ok(())
+}
+
+// Whether the set that stands at the clock has the same names.
+fn stands_at(sets: &Map, clock: u64, set: &NameSet) -> bool
+    ensures { IsTrue result → (a : List Span) × (standing (begins_at sets.now.entries) clock ≡ Some a) × ((o : List ℕ) → IsName o → has a o ≡ has set.now o) }
+{
+    match set_at(sets, clock) {
+        Some(before) => same_names(before, set),
+        None => false,
     }
 }
 
@@ -156,9 +221,9 @@ fn repeats(sets: &Map, clock: u64) -> bool
     requires { 1 ≤ clock }
     ensures { IsTrue result → (a : List Span) × (b : List Span) × (standing (begins_at sets.now.entries) (clock - 1) ≡ Some a) × (begins_at sets.now.entries clock ≡ Some b) × ((o : List ℕ) → IsName o → has a o ≡ has b o) }
 {
-    match (set_at(sets, clock - 1), sets.get(&clock)) {
-        (Some(before), Some(set)) => same_names(before, set),
-        _ => false,
+    match sets.get(&clock) {
+        Some(set) => stands_at(sets, clock - 1, set),
+        None => false,
     }
 }
 
