@@ -1,7 +1,7 @@
 #!/usr/bin/env python3
 """Measures single calls of a node, by the program practi_bench.
 
-    bench/calls.py PROGRAM [--tries N] [--part K] [--limit S] [KIND ..]
+    bench/calls.py PROGRAM [--tries N] [--part K] [--limit S] [--instructions] [KIND ..]
 
 Of pair, coded, filtered and bodies a call is a round: pair is a write, a turn, an accept and a read, coded the same over
 bytes, filtered one of many writes with two turns behind each ten, and bodies a write and two turns. Of cut it is a write
@@ -11,12 +11,15 @@ with no calls is taken off, which is what it takes to begin.
 
 It writes for each kind the number of calls, the microseconds of processor time for a call, the least of N tries, and over
 that the time for a call of each other run: 1.0 is no growth. In the last column ("31, x2") it is twice as many calls with
-31 writers over the calls with 31 writers. With --part K the number of calls is divided by K. No figure is a test; the exit
-status is 1 where a run ends as it must not.
+31 writers over the calls with 31 writers. With --part K the number of calls is divided by K, and so is that of the names. With
+--instructions thousands of instructions stand in place of microseconds: valgrind's callgrind counts them, the same in
+every run, and one try is made. No figure is a test; the exit status is 1 where a run ends as it must not.
 """
 
 import argparse
 import os
+import re
+import subprocess
 import sys
 import tempfile
 
@@ -46,21 +49,36 @@ KINDS = ROUNDS | CALLS
 MOST_WRITERS = 31
 
 
-def spent(kind, calls, names, writers, args):
-    words = [args.program, kind, str(calls), str(names), str(writers)]
+def seconds(words, args):
     with tempfile.TemporaryFile() as out:
         return best(words, os.devnull, out, 0, args).seconds
 
 
+def instructions(words):
+    with tempfile.NamedTemporaryFile() as profile:
+        counter = ["valgrind", "--tool=callgrind", f"--callgrind-out-file={profile.name}"]
+        run = subprocess.run(counter + words, capture_output=True, text=True)
+    count = re.search(r"refs:\s+([\d,]+)", run.stderr)
+    if run.returncode != 0 or count is None:
+        raise RuntimeError(f"valgrind ended with {run.returncode}")
+    return int(count.group(1).replace(",", ""))
+
+
+def spent(kind, calls, names, writers, args):
+    """What a run costs, in microseconds or in thousands of instructions."""
+    words = [os.path.abspath(args.program), kind, str(calls), str(names), str(writers)]
+    return instructions(words) / 1e3 if args.instructions else seconds(words, args) * 1e6
+
+
 def each(kind, calls, names, writers, args):
-    """The microseconds of a call."""
-    seconds = spent(kind, calls, names, writers, args) - spent(kind, 0, names, writers, args)
-    return max(seconds / calls * 1e6, 0.001)
+    """What a call costs."""
+    cost = spent(kind, calls, names, writers, args) - spent(kind, 0, names, writers, args)
+    return max(cost / calls, 0.001)
 
 
 def measured(kind, args):
     calls, names = KINDS[kind]
-    calls = max(calls // args.part, 1)
+    calls, names = max(calls // args.part, 1), max(names // args.part, 1)
     once = each(kind, calls, names, 1, args)
     longer = each(kind, calls * 2, names, 1, args) / once
     named = each(kind, calls, names * 2, 1, args) / once
@@ -77,11 +95,13 @@ def main():
     parser.add_argument("--tries", type=int, default=3)
     parser.add_argument("--part", type=int, default=1)
     parser.add_argument("--limit", type=float, default=120)
+    parser.add_argument("--instructions", action="store_true")
     parser.add_argument("kinds", nargs="*", metavar="KIND", help=", ".join(KINDS))
     args = parser.parse_intermixed_args()
 
     status = 0
-    print(f"{'kind':12} {'calls':>7} {'us a call':>9} {'calls x2':>8} {'names x2':>8} {'31 writers':>10} {'31, x2':>8}")
+    unit = "1000 ins." if args.instructions else "us a call"
+    print(f"{'kind':12} {'calls':>7} {unit:>9} {'calls x2':>8} {'names x2':>8} {'31 writers':>10} {'31, x2':>8}")
     for kind in args.kinds or KINDS:
         try:
             measured(kind, args)
