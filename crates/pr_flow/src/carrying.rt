@@ -10,8 +10,12 @@ use pr_inval::{Bytes, Msg};
 use pr_stamps::{NoMemory, Seq};
 use pr_story::Cause;
 use pr_wire::{Feed, Pieces, encode};
-use pr_wires::{UNDER, Wire};
+use pr_wires::Wire;
 use std::alloc::Global;
+
+// How many bytes are put into a wire before they are taken again: nearly every invalidation has no more, and a wire holds
+// four times as many. The room for them is cleared for each message.
+const PIECE: usize = 1024;
 
 /// A message was taken again and decoded; the wire failed or ended; or other bytes were taken.
 #[derive(Drop)]
@@ -32,8 +36,8 @@ pub fn carry<W: Wire>(alloc: Global, msg: &Msg, wire: &mut W) -> Result<Carried,
 {
     let mut pieces = Pieces::new(msg);
     let mut feed = Feed::new(alloc, u64::MAX);
-    let mut piece = [0; UNDER];
-    let mut bytes = [0; UNDER];
+    let mut piece = [0; PIECE];
+    let mut bytes = [0; PIECE];
     let mut done: usize = 0;
     loop {
         let len = pieces.next(&mut piece);
