@@ -11,8 +11,8 @@ use Rattle.std.specs.Map.{lookup}
 use Rattle.std.specs.Option.{option_or, unwrap_or}
 use Rattle.std.proofs.lemmas.Bool.Decides.{nat_tests}
 use Rattle.std.proofs.lemmas.Map.Entries.{lookup-filter-keys}
-use Rattle.pr_stamps.specs.Point.{Point, is_before, is_same}
-use Rattle.pr_bodies.specs.Bodies.{body_of, row_of}
+use Rattle.pr_stamps.specs.Point.{Point, is_before, is_same, is_this}
+use Rattle.pr_bodies.specs.Bodies.{body_of, renewed, row_of}
 
 abbrev Row : Type 0
 Row = List (Point × List ℕ)
@@ -66,6 +66,38 @@ put_behind old row new s t bytes was is =
     put false None = refl
     put false (Some y) = refl
 
+-- ---- the bodies with greater stamps, and one behind them
+
+pub later : (s : Point) (row : Row) (t : Point) → body_of (filter (λ e. is_before s e.0) row) t ≡ cond (is_before s t) (body_of row t) None
+later s row t = kept (is_before s) row t
+
+before_nat : (ac an bc bn : ℕ) → (nat_lt bc ac || (nat_eq bc ac && nat_lt bn an)) ≡ (not (nat_lt ac bc || (nat_eq ac bc && nat_lt an bn)) && not (nat_eq ac bc && nat_eq an bn))
+before_nat ac an bc bn = grind (arith, nat_tests)
+
+one_nat : (ac an bc bn : ℕ) → ((nat_lt ac bc || (nat_eq ac bc && nat_lt an bn)) && (nat_eq ac bc && nat_eq an bn)) ≡ false
+one_nat ac an bc bn = grind (arith, nat_tests)
+
+-- of two stamps one is before the other, or they are the same
+before : (s t : Point) → is_before t s ≡ (not (is_before s t) && not (is_same s t))
+before s t = before_nat s.clock s.node t.clock t.node
+
+not_both : (s t : Point) → (is_before s t && is_same s t) ≡ false
+not_both s t = one_nat s.clock s.node t.clock t.node
+
+renewed_by : (bytes : List ℕ) (after same : Bool) (x : Option (List ℕ)) → (after && same) ≡ false → option_or (cond after x None) (cond same (Some bytes) None) ≡ cond (not after && not same) None (cond same (Some bytes) x)
+renewed_by bytes true true x e = cc
+renewed_by bytes true false None e = refl
+renewed_by bytes true false (Some y) e = refl
+renewed_by bytes false true x e = refl
+renewed_by bytes false false x e = refl
+
+pub renewed_behind : (old row new : Row) (s t : Point) (bytes : List ℕ) → body_of row t ≡ cond (is_before s t) (body_of old t) None → new ≡ row ++ (s, bytes) ∷ [] → body_of new t ≡ renewed s bytes t (body_of old t)
+renewed_behind old row new s t bytes was is =
+    ap (λ r. body_of r t) is ∙ pushed row s t bytes ∙ ap (λ x. option_or x (cond (is_same t s) (Some bytes) None)) was
+    ∙ ap (λ b. option_or (cond (is_before s t) (body_of old t) None) (cond b (Some bytes) None)) (turned t s)
+    ∙ renewed_by bytes (is_before s t) (is_same s t) (body_of old t) (not_both s t)
+    ∙ ap (λ b. cond b None (cond (is_same s t) (Some bytes) (body_of old t))) (sym (before s t))
+
 -- ---- the first body of this stamp
 
 pub found_here : (row rest : Row) (s t : Point) (bytes : List ℕ) → row ≡ (s, bytes) ∷ rest → is_same s t ≡ true → body_of row t ≡ Some bytes
@@ -92,18 +124,36 @@ either_test false = inr refl
 same_name : (a b : List ℕ) → is_key a b ≡ true → a ≡ b
 same_name a b e = (bytes_eq-Decides a b).0 (sym (is_eq-slice_cmp a b) ∙ e)
 
--- a row is changed by a test of its stamps
-pub changed : (old new : Table) (name : List ℕ) (row : Row) (test : Point → Bool) (then : Option (List ℕ)) → ((o : List ℕ) → row_by new o ≡ cond (is_key name o) (Some row) (row_by old o)) → ((t : Point) → body_of row t ≡ cond (test t) then (body_of (row_of old name) t)) → (o : List ℕ) (t : Point) → body_of (row_of new o) t ≡ cond (bytes_eq name o && test t) then (body_of (row_of old o) t)
-changed old new name row test then is body o t = elim (either_test (is_key name o)) [
+-- a row is changed, stamp by stamp
+row_changed : (old new : Table) (name : List ℕ) (row : Row) (step : Point → Option (List ℕ) → Option (List ℕ)) → ((o : List ℕ) → row_by new o ≡ cond (is_key name o) (Some row) (row_by old o)) → ((t : Point) → body_of row t ≡ step t (body_of (row_of old name) t)) → (o : List ℕ) (t : Point) → body_of (row_of new o) t ≡ cond (bytes_eq name o) (step t (body_of (row_of old o) t)) (body_of (row_of old o) t)
+row_changed old new name row step is body o t = elim (either_test (is_key name o)) [
   | inl this ↦
       ap (λ r. body_of (unwrap_or r []) t) (is o ∙ ap (λ b. cond b (Some row) (row_by old o)) this)
       ∙ body t
-      ∙ ap (λ n. cond (test t) then (body_of (row_of old n) t)) (same_name name o this)
-      ∙ ap (λ b. cond (b && test t) then (body_of (row_of old o) t)) (sym this ∙ is_eq-slice_cmp name o)
+      ∙ ap (λ n. step t (body_of (row_of old n) t)) (same_name name o this)
+      ∙ ap (λ b. cond b (step t (body_of (row_of old o) t)) (body_of (row_of old o) t)) (sym this ∙ is_eq-slice_cmp name o)
   | inr other ↦
       ap (λ r. body_of (unwrap_or r []) t) (is o ∙ ap (λ b. cond b (Some row) (row_by old o)) other)
-      ∙ ap (λ b. cond (b && test t) then (body_of (row_of old o) t)) (sym other ∙ is_eq-slice_cmp name o)
+      ∙ ap (λ b. cond b (step t (body_of (row_of old o) t)) (body_of (row_of old o) t)) (sym other ∙ is_eq-slice_cmp name o)
 ]
+
+-- by a test of its stamps
+pub changed : (old new : Table) (name : List ℕ) (row : Row) (test : Point → Bool) (then : Option (List ℕ)) → ((o : List ℕ) → row_by new o ≡ cond (is_key name o) (Some row) (row_by old o)) → ((t : Point) → body_of row t ≡ cond (test t) then (body_of (row_of old name) t)) → (o : List ℕ) (t : Point) → body_of (row_of new o) t ≡ cond (bytes_eq name o && test t) then (body_of (row_of old o) t)
+changed old new name row test then is body o t =
+    row_changed old new name row (λ s x. cond (test s) then x) is body o t ∙ both (bytes_eq name o) (body_of (row_of old o) t)
+  where
+    both : (b : Bool) (x : Option (List ℕ)) → cond b (cond (test t) then x) x ≡ cond (b && test t) then x
+    both true x = refl
+    both false x = refl
+
+-- by a newer body
+pub renewed_row : (old new : Table) (name : List ℕ) (row : Row) (s : Point) (bytes : List ℕ) → ((o : List ℕ) → row_by new o ≡ cond (is_key name o) (Some row) (row_by old o)) → ((t : Point) → body_of row t ≡ renewed s bytes t (body_of (row_of old name) t)) → (o : List ℕ) (t : Point) → body_of (row_of new o) t ≡ cond (bytes_eq name o && is_before t s) None (cond (is_this name s o t) (Some bytes) (body_of (row_of old o) t))
+renewed_row old new name row s bytes is body o t =
+    row_changed old new name row (renewed s bytes) is body o t ∙ both (bytes_eq name o) (body_of (row_of old o) t)
+  where
+    both : (b : Bool) (x : Option (List ℕ)) → cond b (renewed s bytes t x) x ≡ cond (b && is_before t s) None (cond (b && is_same s t) (Some bytes) x)
+    both true x = refl
+    both false x = refl
 
 -- a name without a row has no body that a test could take
 pub absent : (table : Table) (name : List ℕ) (test : Point → Bool) → row_by table name ≡ None → (o : List ℕ) (t : Point) → body_of (row_of table o) t ≡ cond (bytes_eq name o && test t) None (body_of (row_of table o) t)

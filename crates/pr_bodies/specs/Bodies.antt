@@ -28,6 +28,14 @@ held h o t = body_of (row_of h.rows o) t
 abbrev pub IsPut : Held → Held → List ℕ → Point → List ℕ → Type 0
 IsPut a b name stamp bytes = (o : List ℕ) (t : Point) → held b o t ≡ cond (is_this name stamp o t) (Some bytes) (held a o t)
 
+-- what is held of a name at t, by what was held there: a body is put, and the smaller stamps are gone
+abbrev pub renewed : Point → List ℕ → Point → Option (List ℕ) → Option (List ℕ)
+renewed stamp bytes t was = cond (is_before t stamp) None (cond (is_same stamp t) (Some bytes) was)
+
+-- a body is put, and the name's bodies with smaller stamps are gone
+abbrev pub IsRenewed : Held → Held → List ℕ → Point → List ℕ → Type 0
+IsRenewed a b name stamp bytes = (o : List ℕ) (t : Point) → held b o t ≡ cond (bytes_eq name o && is_before t stamp) None (cond (is_this name stamp o t) (Some bytes) (held a o t))
+
 -- the name's bodies with smaller stamps are gone
 abbrev pub IsSettled : Held → Held → List ℕ → Point → Type 0
 IsSettled a b name stamp = (o : List ℕ) (t : Point) → held b o t ≡ cond (bytes_eq name o && is_before t stamp) None (held a o t)

@@ -1,10 +1,10 @@
 // The body store.
-ghost use Rattle.pr_bodies.specs.Bodies.{IsDroppedAll, IsPut, IsSettled, held};
-ghost use Rattle.std.specs.Prelude.{◌≡◌, [], true, false, None, Some, IsErr, MatchOption, OnErr, OnOk};
+ghost use Rattle.pr_bodies.specs.Bodies.{IsDroppedAll, IsPut, IsRenewed, IsSettled, held};
+ghost use Rattle.std.specs.Prelude.{◌≡◌, [], true, false, None, Some, IfOk, IsErr, MatchOption, OnErr, OnOk};
 
 use crate::row::Row;
 use pr_names::Name;
-use pr_stamps::{NoMemory, Seq, Stamp};
+use pr_stamps::{Bytes, NoMemory, Seq, Stamp};
 use std::alloc::Global;
 use std::collections::BTreeMap;
 use std::marker::Model;
@@ -47,15 +47,45 @@ impl Bodies {
         ensures err { OnErr result (self.new.spent ≡ true) }
         ensures spent { self.old.spent ≡ true → IsErr result }
     {
-        if self.spent {
-            return Err(NoMemory);
-        }
-        self.spent = true;
-        let bytes = Seq::copied(self.alloc, bytes)?;
+        let bytes = self.begin(bytes)?;
         let row = self.rows.entry(*name)?.or_insert(Row::new(self.alloc));
         row.put(stamp, bytes)?;
         self.spent = false;
         Ok(())
+    }
+
+    /// Holds a body as `put` does, and drops the bodies of the name with smaller stamps as `settle` does, in the time of
+    /// `put` alone: what a newer write of the name calls for.
+    pub fn renew(&mut self, name: &Name, stamp: &Stamp, bytes: &[u8]) -> Result<(), NoMemory>
+        ensures ok { OnOk result (IsRenewed self.old self.new name.now stamp.now bytes.now) }
+        ensures works { OnOk result (self.new.spent ≡ false) }
+        ensures err { OnErr result (self.new.spent ≡ true) }
+        ensures spent { self.old.spent ≡ true → IsErr result }
+    {
+        let bytes = self.begin(bytes)?;
+        match self.rows.get_mut(name) {
+            Some(row) => row.renew(stamp, bytes)?,
+            None => {
+                let row = Row::one(self.alloc, stamp, bytes)?;
+                self.rows.insert(*name, row)?;
+            }
+        }
+        self.spent = false;
+        Ok(())
+    }
+
+    // A copy of the bytes. The store is spent until the call that asked for it is done.
+    fn begin(&mut self, bytes: &[u8]) -> Result<Bytes, NoMemory>
+        ensures copy { IfOk result (λ b. b ≡ bytes.now) }
+        ensures rows { self.new.rows ≡ self.old.rows }
+        ensures spent { self.new.spent ≡ true }
+        ensures refused { self.old.spent ≡ true → IsErr result }
+    {
+        if self.spent {
+            return Err(NoMemory);
+        }
+        self.spent = true;
+        Seq::copied(self.alloc, bytes)
     }
 
     /// The body of this name and stamp, in time logarithmic in the names and linear in the bodies of the name; None

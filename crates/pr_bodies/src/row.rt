@@ -1,7 +1,7 @@
 // The bodies of a name.
-ghost use Rattle.pr_bodies.specs.Bodies.{body_of};
+ghost use Rattle.pr_bodies.specs.Bodies.{body_of, renewed};
 ghost use Rattle.pr_stamps.specs.Point.{Point, is_before, is_same};
-ghost use Rattle.std.specs.Prelude.{◌≡◌, MatchOption, None, OnOk, Some, [], cond};
+ghost use Rattle.std.specs.Prelude.{◌≡◌, IfOk, MatchOption, None, OnOk, Some, [], cond};
 
 use pr_stamps::{Bytes, NoMemory, Stamp};
 use std::alloc::Global;
@@ -31,6 +31,15 @@ impl Row {
         }
     }
 
+    /// The row of one body.
+    pub fn one(alloc: Global, stamp: &Stamp, bytes: Bytes) -> Result<Row, NoMemory>
+        ensures { IfOk result (λ row. (t : Point) → body_of row t ≡ renewed stamp.now bytes t None) }
+    {
+        let mut row = Row::new(alloc);
+        row.bodies.push((*stamp, bytes))?;
+        Ok(row)
+    }
+
     /// Holds a body, in place of one with its stamp, in time linear in the bodies.
     pub fn put(&mut self, stamp: &Stamp, bytes: Bytes) -> Result<(), NoMemory>
         ensures { OnOk result ((t : Point) → body_of self.new t ≡ cond (is_same stamp.now t) (Some bytes) (body_of self.old t)) }
@@ -38,6 +47,21 @@ impl Row {
         self.remove(stamp);
         self.bodies.push((*stamp, bytes))?;
         Ok(())
+    }
+
+    /// Holds a body, in place of those whose stamps are not greater, in time linear in the bodies.
+    pub fn renew(&mut self, stamp: &Stamp, bytes: Bytes) -> Result<(), NoMemory>
+        ensures { OnOk result ((t : Point) → body_of self.new t ≡ renewed stamp.now bytes t (body_of self.old t)) }
+    {
+        self.keep_after(stamp);
+        self.bodies.push((*stamp, bytes))?;
+        Ok(())
+    }
+
+    fn keep_after(&mut self, stamp: &Stamp)
+        ensures { (t : Point) → body_of self.new t ≡ cond (is_before stamp.now t) (body_of self.old t) None }
+    {
+        self.bodies.retain(|(held, _)| stamp.is_before(held));
     }
 
     fn remove(&mut self, stamp: &Stamp)

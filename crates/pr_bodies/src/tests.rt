@@ -1,6 +1,7 @@
 use crate::Bodies;
 use pr_names::Name;
 use pr_stamps::Stamp;
+use std::alloc::Global;
 use std::test::Fail;
 
 #[test]
@@ -32,4 +33,24 @@ fn bodies_are_held_by_name_and_stamp(rt: HostRuntime) -> Result<(), Fail> {
     bodies.drop_all(&b);
     assert_eq!(rt; bodies.get(&b, &first), None);
     Ok(())
+}
+
+#[test]
+fn a_renewed_body_leaves_the_greater_stamps(rt: HostRuntime) -> Result<(), Fail> {
+    assert!(rt; is_renewed(rt.alloc()).unwrap_or(false));
+    Ok(())
+}
+
+fn is_renewed(alloc: Global) -> Option<bool> {
+    let name = Name::read(b"a").ok()?;
+    let (first, tied, later) = (Stamp::new(1, 0)?, Stamp::new(1, 1)?, Stamp::new(2, 0)?);
+    let mut bodies = Bodies::new(alloc);
+    bodies.renew(&name, &later, b"late").ok()?;
+    bodies.put(&name, &first, b"old").ok()?;
+    bodies.renew(&name, &tied, b"own").ok()?;
+    Some(
+        bodies.get(&name, &first) == None
+            && bodies.get(&name, &tied) == Some(b"own".as_slice())
+            && bodies.get(&name, &later) == Some(b"late".as_slice()),
+    )
 }

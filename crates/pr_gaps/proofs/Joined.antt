@@ -1,6 +1,6 @@
 -- Ranges that lie apart, with one taken out or put in. A set of ranges is the end of each by its start.
-use Rattle.std.proofs.Common.{◌≡◌, ℕ, ◌≤◌, ◌<◌, ◌+◌, Option, None, Some, true, false, cond, refl, sym, ◌∙◌, ap, arith, nat_eq, inl, inr}
-use Rattle.std.specs.Prelude.{◌⊎◌, min, max}
+use Rattle.std.proofs.Common.{◌≡◌, ℕ, ◌≤◌, ◌<◌, ◌+◌, Option, None, Some, Bool, true, false, cond, refl, sym, ◌∙◌, ap, arith, nat_eq, inl, inr}
+use Rattle.std.specs.Prelude.{◌⊎◌, ◌↔◌, min, max}
 use Rattle.std.specs.Option.{IsSome, IfNone}
 use Rattle.std.specs.Ordering.{is_eq, is_lt, is_gt, nat_cmp}
 use Rattle.std.proofs.lemmas.Bool.Decides.{nat_tests}
@@ -93,19 +93,78 @@ has_now f h lo hi c in_ apart far order (inr (from, to)) = (lo, hi, in_ lo ∙ a
 
 -- ---- one turn: a near range is taken out, and the clocks grow by it
 
-near_hull : (lo hi s e c : ℕ) → lo ≤ hi → s ≤ e → s ≤ hi + 1 → lo ≤ e + 1 → min lo s ≤ c → c ≤ max hi e → ((s ≤ c) × (c ≤ e)) ⊎ ((lo ≤ c) × (c ≤ hi))
-near_hull lo hi s e c order some up down from to = grind (arith, nat_tests)
+near_hull : (lo hi s e m c : ℕ) → m ≡ min lo s → lo ≤ hi → s ≤ e → s ≤ hi + 1 → lo ≤ e + 1 → m ≤ c → c ≤ max hi e → ((s ≤ c) × (c ≤ e)) ⊎ ((lo ≤ c) × (c ≤ hi))
+near_hull lo hi s e m c is order some up down from to = grind (arith, nat_tests)
 
-hull_has : (lo hi s e c : ℕ) → ((s ≤ c) × (c ≤ e)) ⊎ ((lo ≤ c) × (c ≤ hi)) → (min lo s ≤ c) × (c ≤ max hi e)
-hull_has lo hi s e c either = grind (arith, nat_tests)
+hull_has : (lo hi s e m c : ℕ) → m ≡ min lo s → ((s ≤ c) × (c ≤ e)) ⊎ ((lo ≤ c) × (c ≤ hi)) → (m ≤ c) × (c ≤ max hi e)
+hull_has lo hi s e m c is either = grind (arith, nat_tests)
 
-pub turn_to : (f g : ℕ → Option ℕ) (lo hi s e c : ℕ) → f s ≡ Some e → ((q : ℕ) → g q ≡ cond (is_eq (nat_cmp s q)) None (f q)) → lo ≤ hi → s ≤ e → s ≤ hi + 1 → lo ≤ e + 1 → Has g c ⊎ ((min lo s ≤ c) × (c ≤ max hi e)) → Has f c ⊎ ((lo ≤ c) × (c ≤ hi))
-turn_to f g lo hi s e c at out order some up down (inl (t, u, is, from, to)) = inl (t, u, left f g s out t u is, from, to)
-turn_to f g lo hi s e c at out order some up down (inr (from, to)) = elim (near_hull lo hi s e c order some up down from to) [ inl old ↦ inl (s, e, at, old.0, old.1) | inr new ↦ inr new ]
+pub turn_to : (f g : ℕ → Option ℕ) (lo hi s e m c : ℕ) → m ≡ min lo s → f s ≡ Some e → ((q : ℕ) → g q ≡ cond (is_eq (nat_cmp s q)) None (f q)) → lo ≤ hi → s ≤ e → s ≤ hi + 1 → lo ≤ e + 1 → Has g c ⊎ ((m ≤ c) × (c ≤ max hi e)) → Has f c ⊎ ((lo ≤ c) × (c ≤ hi))
+turn_to f g lo hi s e m c m_is at out order some up down (inl (t, u, is, from, to)) = inl (t, u, left f g s out t u is, from, to)
+turn_to f g lo hi s e m c m_is at out order some up down (inr (from, to)) = elim (near_hull lo hi s e m c m_is order some up down from to) [ inl old ↦ inl (s, e, at, old.0, old.1) | inr new ↦ inr new ]
 
-pub turn_from : (f g : ℕ → Option ℕ) (lo hi s e c : ℕ) → f s ≡ Some e → ((q : ℕ) → g q ≡ cond (is_eq (nat_cmp s q)) None (f q)) → Has f c ⊎ ((lo ≤ c) × (c ≤ hi)) → Has g c ⊎ ((min lo s ≤ c) × (c ≤ max hi e))
-turn_from f g lo hi s e c at out (inl has) = elim (still f g s e c at out has) [ inl more ↦ inl more | inr here ↦ inr (hull_has lo hi s e c (inl here)) ]
-turn_from f g lo hi s e c at out (inr new) = inr (hull_has lo hi s e c (inr new))
+pub turn_from : (f g : ℕ → Option ℕ) (lo hi s e m c : ℕ) → m ≡ min lo s → f s ≡ Some e → ((q : ℕ) → g q ≡ cond (is_eq (nat_cmp s q)) None (f q)) → Has f c ⊎ ((lo ≤ c) × (c ≤ hi)) → Has g c ⊎ ((m ≤ c) × (c ≤ max hi e))
+turn_from f g lo hi s e m c m_is at out (inl has) = elim (still f g s e c at out has) [ inl more ↦ inl more | inr here ↦ inr (hull_has lo hi s e m c m_is (inl here)) ]
+turn_from f g lo hi s e m c m_is at out (inr new) = inr (hull_has lo hi s e m c m_is (inr new))
+
+pub min_first : (lo s : ℕ) → lo < s → lo ≡ min lo s
+min_first lo s less = grind (arith, nat_tests)
+
+min_start : (lo s : ℕ) → s ≤ lo → s ≡ min lo s
+min_start lo s le = grind (arith, nat_tests)
+
+-- ---- the last near range begins at or before the clocks: it grows, and no other is near
+
+-- no range begins between this start and the clock after `hi`
+abbrev pub IsLast : (ℕ → Option ℕ) → ℕ → ℕ → Type 0
+IsLast f hi s = (t u : ℕ) → f t ≡ Some u → (t ≤ s) ⊎ (hi + 1 < t)
+
+-- the ranges without the one that begins here
+abbrev without : (ℕ → Option ℕ) → ℕ → ℕ → Option ℕ
+without f s q = cond (is_eq (nat_cmp s q)) None (f q)
+
+grown_in : (f h : ℕ → Option ℕ) (s e : ℕ) → ((q : ℕ) → h q ≡ cond (is_eq (nat_cmp s q)) (Some e) (f q)) → (q : ℕ) → h q ≡ cond (is_eq (nat_cmp s q)) (Some e) (without f s q)
+grown_in f h s e in_ q = in_ q ∙ twice (is_eq (nat_cmp s q))
+  where
+    twice : (b : Bool) → cond b (Some e) (f q) ≡ cond b (Some e) (cond b None (f q))
+    twice true = refl
+    twice false = refl
+
+far_without : (f : ℕ → Option ℕ) (hi s e : ℕ) → AreApart f → f s ≡ Some e → IsLast f hi s → AreFar (without f s) s (max hi e)
+far_without f hi s e apart at last t u is = elim (order s t) [
+  | inl here ↦ absurd (gone (sym (ap (λ b. cond b None (f t)) (this s t here)) ∙ is))
+  | inr (inl less) ↦ inl (apart.gap t u s e was at less)
+  | inr (inr more) ↦ elim (last t u was) [
+    | inl le ↦ absurd (omega (arith, le, more))
+    | inr past ↦ inr (beyond past (apart.gap s e t u at was more))
+  ]
+]
+  where
+    was : f t ≡ Some u
+    was = left f (without f s) s (λ q. refl) t u is
+
+    order : (x y : ℕ) → (x ≡ y) ⊎ ((y < x) ⊎ (x < y))
+    order x y = grind (arith, nat_tests)
+
+    gone : None ≡ Some u → ⊥
+    gone h = cc
+
+    beyond : hi + 1 < t → e + 1 < t → max hi e + 1 < t
+    beyond past more = grind (arith, nat_tests)
+
+pub grown_apart : (f h : ℕ → Option ℕ) (lo hi s e : ℕ) → AreApart f → f s ≡ Some e → IsLast f hi s → ((q : ℕ) → h q ≡ cond (is_eq (nat_cmp s q)) (Some (max hi e)) (f q)) → s ≤ lo → lo ≤ hi → hi ≤ 4611686018427387903 → AreApart h
+grown_apart f h lo hi s e apart at last in_ le order most =
+    let k = apart.some s e at in
+    now_apart (without f s) h s (max hi e) (grown_in f h s (max hi e) in_) (still_apart f (without f s) s (λ q. refl) apart) (far_without f hi s e apart at last) k.0 (omega (arith, k.1.0)) (omega (arith, k.1.1))
+
+pub grown_same : (f h : ℕ → Option ℕ) (lo hi s e : ℕ) → AreApart f → f s ≡ Some e → IsLast f hi s → ((q : ℕ) → h q ≡ cond (is_eq (nat_cmp s q)) (Some (max hi e)) (f q)) → s ≤ lo → lo ≤ hi → lo ≤ e + 1 → (c : ℕ) → Has h c ↔ (Has f c ⊎ ((lo ≤ c) × (c ≤ hi)))
+grown_same f h lo hi s e apart at last in_ le order down c =
+    let k = apart.some s e at in
+    let in_g = grown_in f h s (max hi e) in_ in
+    let m : s ≡ min lo s = min_start lo s le in (
+      (λ has. turn_to f (without f s) lo hi s e s c m at (λ q. refl) order k.1.0 (omega arith) down (now_has (without f s) h s (max hi e) c in_g has)),
+      (λ either. has_now (without f s) h s (max hi e) c in_g (still_apart f (without f s) s (λ q. refl) apart) (far_without f hi s e apart at last) (omega (arith, k.1.0)) (turn_from f (without f s) lo hi s e s c m at (λ q. refl) either)),
+    )
 
 -- ---- the run from 1
 

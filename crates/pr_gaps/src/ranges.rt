@@ -1,8 +1,8 @@
 // Sets of clocks.
 ghost use Rattle.pr_gaps.specs.Ranges.{AreApart, Has, HasClock, end_at};
-ghost use Rattle.std.specs.Ordering.{is_lt, nat_cmp};
+ghost use Rattle.std.specs.Ordering.{is_eq, is_lt, nat_cmp};
 ghost use Rattle.std.specs.BTreeMap.Range.{IsLeBy};
-ghost use Rattle.std.specs.Prelude.{◌≡◌, ◌≤◌, ◌<◌, ◌+◌, ◌⊎◌, ◌↔◌, ℕ, [], IfNone, IfSome, IsSome, OnOk, None, Some, false};
+ghost use Rattle.std.specs.Prelude.{◌≡◌, ◌≤◌, ◌<◌, ◌+◌, ◌⊎◌, ◌↔◌, ℕ, [], IfNone, IfSome, IsSome, OnOk, None, Some, cond, false};
 
 use pr_stamps::{MAX, NoMemory};
 use std::alloc::Global;
@@ -37,20 +37,23 @@ impl Ranges {
     }
 
     // The clocks from `lo` to `hi` are in the set too. It takes time logarithmic in the ranges, for each range that is
-    // joined with these clocks.
+    // joined with these clocks. A range that begins at or before `lo` is the first of those, and grows where it stands.
     pub fn add(&mut self, lo: u64, hi: u64) -> Result<(), NoMemory>
         requires some { 1 ≤ lo }
         requires order { lo ≤ hi }
         requires most { hi ≤ 4611686018427387903 }
         ensures { OnOk result ((c : ℕ) → HasClock self.new c ↔ (HasClock self.old c ⊎ ((lo ≤ c) × (c ≤ hi)))) }
     {
-        let (mut first, mut last) = (lo, hi);
-        while let Some((start, end)) = touching(&self.ends, first, last) {
-            self.ends.remove(&start);
-            first = first.min(start);
+        let mut last = hi;
+        while let Some((start, end)) = touching(&self.ends, lo, last) {
             last = last.max(end);
+            if start <= lo {
+                set_end(&mut self.ends, start, last);
+                return Ok(());
+            }
+            self.ends.remove(&start);
         }
-        self.ends.insert(first, last)?;
+        self.ends.insert(lo, last)?;
         Ok(())
     }
 
@@ -66,12 +69,23 @@ impl Ranges {
     }
 }
 
-// A range that overlaps or touches the clocks from `lo` to `hi`.
+// The range that begins at `start` ends at `end`.
+fn set_end(ends: &mut BTreeMap<u64, u64>, start: u64, end: u64)
+    requires { IsSome (end_at ends.old.entries start) }
+    ensures { (s : ℕ) → end_at ends.new.entries s ≡ cond (is_eq (nat_cmp start s)) (Some end) (end_at ends.old.entries s) }
+{
+    if let Some(last) = ends.get_mut(&start) {
+        *last = end;
+    }
+}
+
+// The last range that overlaps or touches the clocks from `lo` to `hi`.
 fn touching(ends: &BTreeMap<u64, u64>, lo: u64, hi: u64) -> Option<(u64, u64)>
     requires apart { AreApart (end_at ends.now.entries) }
     requires most { hi ≤ 4611686018427387903 }
     ensures range { IfSome result (λ r. end_at ends.now.entries r.0 ≡ Some r.1) }
     ensures near { IfSome result (λ r. (r.0 ≤ hi + 1) × (lo ≤ r.1 + 1)) }
+    ensures last { IfSome result (λ r. (s e : ℕ) → end_at ends.now.entries s ≡ Some e → (s ≤ r.0) ⊎ (hi + 1 < s)) }
     ensures none { IfNone result ((s e : ℕ) → end_at ends.now.entries s ≡ Some e → (e + 1 < lo) ⊎ (hi + 1 < s)) }
 {
     let (start, end) = last_up_to(ends, hi + 1)?;

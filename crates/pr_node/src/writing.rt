@@ -79,9 +79,9 @@ pub fn mark_of(write: &WriteRec) -> Mark
 fn keep_body(bodies: &mut Bodies, write: &WriteRec, body: &[u8]) -> Result<(), NoMemory>
     ensures { OnOk result (IsBodyKept bodies.old bodies.new write.now body.now) }
 {
-    if !write.gone {
-        bodies.put(&write.name, &write.stamp, body)?;
+    if write.gone {
+        bodies.settle(&write.name, &write.stamp);
+        return Ok(());
     }
-    bodies.settle(&write.name, &write.stamp);
-    Ok(())
+    bodies.renew(&write.name, &write.stamp, body)
 }

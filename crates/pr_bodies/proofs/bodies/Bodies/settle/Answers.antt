@@ -1,6 +1,5 @@
-use Rattle.std.proofs.Common.{rules, List, ℕ, None, cond, refl, subst, sym, ap, ◌∙◌, IsSome}
-use Rattle.std.specs.BTreeMap.{BTreeMap}
-use Rattle.pr_stamps.specs.Point.{Point, is_before}
+use Rattle.std.proofs.Common.{rules, None, cond, refl, subst, sym, ap, ◌∙◌, IsSome}
+use Rattle.pr_stamps.specs.Point.{is_before}
 use Rattle.pr_bodies.proofs.Rows.{absent, changed, found_row, row_by}
 use Rattle.pr_bodies.proofs.bodies.Bodies.settle.Goals as goal
 use Rattle.pr_bodies.proofs.bodies.Bodies.settle.Goals.{in-Some, in_default}

@@ -8,10 +8,9 @@ use Rattle.pr_gaps.proofs.ranges.Ranges.add.Given as goal
 abbrev pub invariant-loop-start : goal.invariant-loop-start
 invariant-loop-start l = record {
   apart : AreApart (end_at l.self-inside.ends.entries);
-  some : 1 ≤ l.first;
-  order : l.first ≤ l.last;
+  order : l.lo ≤ l.last;
   most : l.last ≤ 4611686018427387903;
-  same : (c : ℕ) → (HasClock l.self-inside.ends.entries c ⊎ ((l.first ≤ c) × (c ≤ l.last))) ↔ (HasClock l.initial.self-inside.ends.entries c ⊎ ((l.lo ≤ c) × (c ≤ l.hi)));
+  same : (c : ℕ) → (HasClock l.self-inside.ends.entries c ⊎ ((l.lo ≤ c) × (c ≤ l.last))) ↔ (HasClock l.initial.self-inside.ends.entries c ⊎ ((l.lo ≤ c) × (c ≤ l.hi)));
 }
 
 abbrev pub decreases-loop-start : goal.decreases-loop-start
