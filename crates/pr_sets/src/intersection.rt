@@ -1,9 +1,10 @@
 // The intersection of two sets.
 ghost use Rattle.pr_sets.specs.Spans.{IsIntersection, IsSet};
-ghost use Rattle.std.specs.Prelude.{IfOk};
+ghost use Rattle.std.specs.Option.{option_to_list};
+ghost use Rattle.std.specs.Prelude.{◌≡◌, ◌++◌, IfOk, OnOk};
 
-use crate::complement::push_some;
 use crate::ends;
+use crate::room::room;
 use pr_names::Interval;
 use pr_stamps::{NoMemory, Seq};
 use std::alloc::Global;
@@ -18,13 +19,14 @@ pub fn intersection(
     requires b { IsSet b.now }
     ensures { IfOk result (IsIntersection a.now b.now) }
 {
+    let least = a.len().min(b.len());
     let mut both = Seq::new(alloc);
     let mut i = 0;
     let mut j = 0;
     while i < a.len() && j < b.len() {
         let left = a[i];
         let right = b[j];
-        push_some(&mut both, ends::shared(&left, &right))?;
+        push(alloc, &mut both, ends::shared(&left, &right), least)?;
         if right.hi().is_below(&left.hi()) {
             j += 1;
         } else {
@@ -32,4 +34,22 @@ pub fn intersection(
         }
     }
     Ok(both)
+}
+
+/// Adds the interval, if there is one. A list that has none first gets room for so many.
+fn push(
+    alloc: Global,
+    list: &mut Seq<Interval>,
+    part: Option<Interval>,
+    parts: usize,
+) -> Result<(), NoMemory>
+    ensures { OnOk result (list.new ≡ list.old ++ option_to_list part) }
+{
+    let Some(part) = part else {
+        return Ok(());
+    };
+    if list.is_empty() {
+        *list = room(alloc, parts)?;
+    }
+    list.push(part)
 }

@@ -4,6 +4,7 @@ ghost use Rattle.std.specs.Prelude.{◌≡◌, [], OnOk, IfOk, None};
 
 use crate::complement::push_some;
 use crate::ends;
+use crate::room::room;
 use pr_names::Interval;
 use pr_stamps::{NoMemory, Seq};
 use std::alloc::Global;
@@ -32,6 +33,14 @@ impl Joiner {
             done: Seq::new(alloc),
             last: None,
         }
+    }
+
+    /// None, with room for so many.
+    pub fn with_room(alloc: Global, parts: usize) -> Result<Joiner, NoMemory>
+        ensures { IfOk result (λ j. j ≡ record { done = []; last = None }) }
+    {
+        let done = room(alloc, parts)?;
+        Ok(Joiner { done, last: None })
     }
 
     /// Adds an interval: the last one grows where it touches it.

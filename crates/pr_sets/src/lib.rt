@@ -13,6 +13,7 @@ mod meeting;
 mod name_set;
 mod print;
 mod read;
+mod room;
 #[cfg(test)]
 mod tests;
 mod union;

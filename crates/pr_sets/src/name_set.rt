@@ -6,6 +6,7 @@ ghost use Rattle.std.specs.Prelude.{◌≡◌, ℕ, List, [], ◌∷◌, ◌++�
 
 use crate::complement::complement;
 use crate::intersection::intersection;
+use crate::room::room;
 use crate::union::union;
 use crate::{SetFault, containment, lookup, meeting, print, read};
 use pr_names::{Bound, Interval, Name};
@@ -41,6 +42,14 @@ impl NameSet {
         NameSet {
             parts: Seq::new(alloc),
         }
+    }
+
+    /// The empty set, with room for so many intervals, in one allocation; for none it takes no memory.
+    pub fn with_room(alloc: Global, parts: usize) -> Result<NameSet, NoMemory>
+        ensures { IfOk result (λ set. set ≡ []) }
+    {
+        let parts = room(alloc, parts)?;
+        Ok(NameSet { parts })
     }
 
     /// The set of the names in one interval.

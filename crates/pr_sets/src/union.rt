@@ -7,13 +7,28 @@ use pr_names::Interval;
 use pr_stamps::{NoMemory, Seq};
 use std::alloc::Global;
 
-/// The intervals of both, in the order of their first names, joined where they touch.
+/// The intervals of both, joined where they touch. Where one has none, they are a copy of the other's.
 pub fn union(alloc: Global, a: &[Interval], b: &[Interval]) -> Result<Seq<Interval>, NoMemory>
     requires a { IsSet a.now }
     requires b { IsSet b.now }
     ensures { IfOk result (IsUnion a.now b.now) }
 {
-    let mut joiner = Joiner::new(alloc);
+    if a.is_empty() {
+        return Seq::copied(alloc, b);
+    }
+    if b.is_empty() {
+        return Seq::copied(alloc, a);
+    }
+    merged(alloc, a, b)
+}
+
+/// The same by a walk, in the order of their first names. The list has room for all of them from the start.
+fn merged(alloc: Global, a: &[Interval], b: &[Interval]) -> Result<Seq<Interval>, NoMemory>
+    requires a { IsSet a.now }
+    requires b { IsSet b.now }
+    ensures { IfOk result (IsUnion a.now b.now) }
+{
+    let mut joiner = Joiner::with_room(alloc, a.len().saturating_add(b.len()))?;
     let mut i = 0;
     let mut j = 0;
     while i < a.len() && j < b.len() {

@@ -20,7 +20,7 @@ loop-i-preserved-then-is_below c = record {
     left_is = c.index-a-i.is;
     right_is = c.index-b-j.is;
     shares = c.shared.ensures;
-    adds = c.in_ok-push_some.ensures;
+    adds = c.in_ok-push.ensures;
     told = c.loop-i.invariant.told;
   }) (bound_lt_places c.index-b-j.result.hi c.index-a-i.result.hi c.hi.ensures.interval.hi c.hi-in-loop-i.ensures.interval.hi (sym (rw (c.hi.ensures.value, c.hi-in-loop-i.ensures.value) at c.is_below.ensures) ∙ c.if-is_below.true));
 }
@@ -37,7 +37,7 @@ loop-i-preserved c = record {
     left_is = c.index-a-i.is;
     right_is = c.index-b-j.is;
     shares = c.shared.ensures;
-    adds = c.in_ok-push_some.ensures;
+    adds = c.in_ok-push.ensures;
     told = c.loop-i.invariant.told;
   }) (bound_le_places c.index-b-j.result.hi c.index-a-i.result.hi c.hi.ensures.interval.hi c.hi-in-loop-i.ensures.interval.hi (sym (rw (c.hi.ensures.value, c.hi-in-loop-i.ensures.value) at c.is_below.ensures) ∙ c.if-is_below.false));
 }

@@ -4,13 +4,13 @@ use Rattle.pr_sets.specs.Joining.{Joining, all_of, puts}
 use Rattle.pr_sets.specs.Spans.{IsUnion}
 use Rattle.pr_sets.proofs.Merges.{Merging, finished, merge_begins, merge_left, merge_right, left_ends, right_ends}
 use Rattle.pr_sets.proofs.Turns.{rest_is}
-use Rattle.pr_sets.proofs.union.union.Goals as goal
-use Rattle.pr_sets.proofs.union.union.Goals.{then-loop-i-test+else-j-b, else-loop-i-test}
+use Rattle.pr_sets.proofs.union.merged.Goals as goal
+use Rattle.pr_sets.proofs.union.merged.Goals.{then-loop-i-test+else-j-b, else-loop-i-test}
 
 pub loop-i-init : goal.loop-i-init
 loop-i-init c =
     let P : Joining → Type 0 = λ k. Merging c.args.a.now c.args.b.now 0 0 k in
-    subst P (sym c.new-joiner.ensures) (merge_begins c.args.a.now c.args.b.now c.requires.a c.requires.b)
+    subst P (sym c.in_ok-joiner.ensures) (merge_begins c.args.a.now c.args.b.now c.requires.a c.requires.b)
 
 pub loop-i-preserved-then-is_below : goal.loop-i-preserved-then-is_below
 loop-i-preserved-then-is_below c =
