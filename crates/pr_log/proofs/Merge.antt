@@ -3,7 +3,7 @@ use Rattle.std.proofs.Common.{◌≡◌, ℕ, ◌≤◌, ◌<◌, ◌+◌, zero,
 use Rattle.std.specs.Prelude.{◌⊎◌, option_copied}
 use Rattle.std.specs.Borrow.{Bor}
 use Rattle.std.specs.Ordering.{is_eq, nat_cmp}
-use Rattle.std.proofs.lemmas.List.{get_or-set_same, get_or-set_other}
+use Rattle.std.proofs.lemmas.List.{get_or-set_same, get_or-set_other, length-set}
 use Rattle.std.proofs.lemmas.List.Sums.{sum_by-cons}
 use Rattle.std.proofs.lemmas.Bool.Decides.{nat_tests}
 use Rattle.pr_stamps.specs.Point.{Point, Before}
@@ -12,7 +12,7 @@ use Rattle.pr_sets.specs.Spans.{has}
 use Rattle.pr_vectors.specs.Vector.{clock_of}
 use Rattle.pr_inval.specs.declared.write_rec.WriteRec.{WriteRec}
 use Rattle.pr_log.specs.Known.{Has, IsByStamp, IsFirstAbove, IsWaiting, at_clock, count_above, row_of, total, uncovered, write_at}
-use Rattle.pr_log.specs.Waiting.{IsLeastHead, IsLesser, IsNextOf, head_of}
+use Rattle.pr_log.specs.Waiting.{AreListed, IsLeastHead, IsLesser, IsNextOf, head_of, node_at}
 use Rattle.pr_log.proofs.Clocks.{less_or, same_some, some_none}
 use Rattle.pr_log.proofs.Places.{this_or_other}
 use Rattle.pr_stamps.proofs.Places.{below_or}
@@ -143,47 +143,153 @@ before_more qc qn bc bn ac an one two three = grind (arith, nat_tests)
 not_itself : (c n : ℕ) → ¬ ((c < c) ⊎ ((c ≡ c) × (n < n)))
 not_itself c n h = grind (arith, nat_tests)
 
-pub least_more : (heads : List (Option (Bor WriteRec))) (n : ℕ) (a b r : Option WriteRec) → IsLeastHead heads n a → head_of heads n ≡ b → IsLesser a b r → IsLeastHead heads (n + 1) r
-least_more heads n None None r least is lesser = subst (IsLeastHead heads (n + 1)) (sym lesser) (λ k lt. elim (below_or k n lt) [ inl less ↦ least k less | inr here ↦ ap (head_of heads) here ∙ is ])
-least_more heads n None (Some b) r least is lesser = subst (IsLeastHead heads (n + 1)) (sym lesser) (
+pub least_more : (head : ℕ → Option WriteRec) (n : ℕ) (a b r : Option WriteRec) → IsLeastHead head n a → head n ≡ b → IsLesser a b r → IsLeastHead head (n + 1) r
+least_more head n None None r least is lesser = subst (IsLeastHead head (n + 1)) (sym lesser) (λ k lt. elim (below_or k n lt) [ inl less ↦ least k less | inr here ↦ ap head here ∙ is ])
+least_more head n None (Some b) r least is lesser = subst (IsLeastHead head (n + 1)) (sym lesser) (
   n,
   omega arith,
   is,
   λ j u lt at. elim (below_or j n lt) [
     | inl less ↦ absurd (some_none u (sym at ∙ least j less))
-    | inr here ↦ subst (λ (v : WriteRec). ¬ Before v.stamp b.stamp) (same_some b u (sym is ∙ ap (head_of heads) (sym here) ∙ at)) (not_itself b.stamp.clock b.stamp.node)
+    | inr here ↦ subst (λ (v : WriteRec). ¬ Before v.stamp b.stamp) (same_some b u (sym is ∙ ap head (sym here) ∙ at)) (not_itself b.stamp.clock b.stamp.node)
   ],
 )
-least_more heads n (Some a) None r (k, lt, at, least) is lesser = subst (IsLeastHead heads (n + 1)) (sym lesser) (
+least_more head n (Some a) None r (k, lt, at, least) is lesser = subst (IsLeastHead head (n + 1)) (sym lesser) (
   k,
   omega (arith, lt),
   at,
   λ j u below at_j. elim (below_or j n below) [
     | inl less ↦ least j u less at_j
-    | inr here ↦ absurd (some_none u (sym at_j ∙ ap (head_of heads) here ∙ is))
+    | inr here ↦ absurd (some_none u (sym at_j ∙ ap head here ∙ is))
   ],
 )
-least_more heads n (Some a) (Some b) r (k, lt, at, least) is (inl (chosen, before)) = subst (IsLeastHead heads (n + 1)) (sym chosen) (
+least_more head n (Some a) (Some b) r (k, lt, at, least) is (inl (chosen, before)) = subst (IsLeastHead head (n + 1)) (sym chosen) (
   n,
   omega arith,
   is,
   λ j u below at_j. elim (below_or j n below) [
     | inl less ↦ λ earlier. least j u less at_j (before_all u.stamp.clock u.stamp.node b.stamp.clock b.stamp.node a.stamp.clock a.stamp.node earlier before)
-    | inr here ↦ subst (λ (v : WriteRec). ¬ Before v.stamp b.stamp) (same_some b u (sym is ∙ ap (head_of heads) (sym here) ∙ at_j)) (not_itself b.stamp.clock b.stamp.node)
+    | inr here ↦ subst (λ (v : WriteRec). ¬ Before v.stamp b.stamp) (same_some b u (sym is ∙ ap head (sym here) ∙ at_j)) (not_itself b.stamp.clock b.stamp.node)
   ],
 )
   where
     before_all : (qc qn bc bn ac an : ℕ) → (qc < bc) ⊎ ((qc ≡ bc) × (qn < bn)) → (bc < ac) ⊎ ((bc ≡ ac) × (bn < an)) → (qc < ac) ⊎ ((qc ≡ ac) × (qn < an))
     before_all qc qn bc bn ac an one two = grind (arith, nat_tests)
-least_more heads n (Some a) (Some b) r (k, lt, at, least) is (inr (chosen, after)) = subst (IsLeastHead heads (n + 1)) (sym chosen) (
+least_more head n (Some a) (Some b) r (k, lt, at, least) is (inr (chosen, after)) = subst (IsLeastHead head (n + 1)) (sym chosen) (
   k,
   omega (arith, lt),
   at,
   λ j u below at_j. elim (below_or j n below) [
     | inl less ↦ least j u less at_j
-    | inr here ↦ subst (λ (v : WriteRec). ¬ Before v.stamp a.stamp) (same_some b u (sym is ∙ ap (head_of heads) (sym here) ∙ at_j)) after
+    | inr here ↦ subst (λ (v : WriteRec). ¬ Before v.stamp a.stamp) (same_some b u (sym is ∙ ap head (sym here) ∙ at_j)) after
   ],
 )
+
+-- ---- the nodes that are listed
+
+-- the least of those that are listed is the least of all
+pub least_listed : (heads : List (Option (Bor WriteRec))) (nodes : List ℕ) (count : ℕ) (r : Option WriteRec) → AreListed heads nodes count 32 → IsLeastHead (λ k. head_of heads (node_at nodes k)) count r → IsLeastHead (head_of heads) 32 r
+least_listed heads nodes count None listed none = λ m lt. at m lt (head_of heads m) refl
+  where
+    at : (m : ℕ) → m < 32 → (head : Option WriteRec) → head_of heads m ≡ head → head_of heads m ≡ None
+    at m lt None is = is
+    at m lt (Some w) is =
+        let found = listed.all m w lt is in
+        absurd (some_none w (sym is ∙ ap (head_of heads) (sym found.2) ∙ none found.0 found.1))
+least_listed heads nodes count (Some w) listed (k, lt, at, least) = (
+  node_at nodes k,
+  listed.known k lt,
+  at,
+  λ j u below at_j.
+      let found = listed.all j u below at_j in
+      least found.0 u found.1 (ap (head_of heads) found.2 ∙ at_j),
+)
+
+-- a node's head changes: the nodes before it, or all of them if it was listed
+pub set_before : (heads : List (Option (Bor WriteRec))) (nodes : List ℕ) (count n : ℕ) (next : Option (Bor WriteRec)) → AreListed heads nodes count n → AreListed (set heads n next) nodes count n
+set_before heads nodes count n next listed = record {
+  len = length-set heads n next ∙ listed.len;
+  few = listed.few;
+  known = listed.known;
+  all = λ m w lt is.
+      let ne : m ≢ n = (λ e. omega (arith, e, lt)) in
+      listed.all m w lt (sym (ap option_copied (get_or-set_other heads n m next None ne)) ∙ is);
+}
+
+pub set_listed : (heads : List (Option (Bor WriteRec))) (nodes : List ℕ) (count n : ℕ) (next : Option (Bor WriteRec)) (w : WriteRec) → AreListed heads nodes count 32 → n < 32 → head_of heads n ≡ Some w → AreListed (set heads n next) nodes count 32
+set_listed heads nodes count n next w listed below had = record {
+  len = length-set heads n next ∙ listed.len;
+  few = listed.few;
+  known = listed.known;
+  all = λ m u lt is. elim (this_or_other m n) [
+    | inl here ↦ subst (λ j. (k : ℕ) × (k < count) × (node_at nodes k ≡ j)) (sym here) (listed.all n w below had)
+    | inr other ↦
+        let ne : m ≢ n = other in
+        listed.all m u lt (sym (ap option_copied (get_or-set_other heads n m next None ne)) ∙ is)
+  ];
+}
+
+-- one node more
+pub put_none : (heads : List (Option (Bor WriteRec))) (nodes : List ℕ) (count n : ℕ) → AreListed heads nodes count n → head_of heads n ≡ None → AreListed heads nodes count (n + 1)
+put_none heads nodes count n listed none = record {
+  len = listed.len;
+  few = omega (arith, listed.few);
+  known = listed.known;
+  all = λ m w lt is. elim (below_or m n lt) [ inl less ↦ listed.all m w less is | inr here ↦ absurd (some_none w (sym is ∙ ap (head_of heads) here ∙ none)) ];
+}
+
+pub put_some : (heads : List (Option (Bor WriteRec))) (nodes : List ℕ) (count n : ℕ) → length nodes ≡ 32 → n < 32 → AreListed heads nodes count n → AreListed heads (set nodes count n) (count + 1) (n + 1)
+put_some heads nodes count n len below listed = record {
+  len = listed.len;
+  few = omega (arith, listed.few);
+  known = λ k lt. elim (below_or k count lt) [
+    | inl less ↦ subst (λ m. m < 32) (sym (old k less)) (listed.known k less)
+    | inr here ↦ subst (λ m. m < 32) (sym (ap (node_at (set nodes count n)) here ∙ new)) below
+  ];
+  all = λ m w lt is. elim (below_or m n lt) [
+    | inl less ↦
+        let found = listed.all m w less is in
+        (found.0, omega (arith, found.1), old found.0 found.1 ∙ found.2)
+    | inr here ↦ (count, omega arith, new ∙ sym here)
+  ];
+}
+  where
+    old : (k : ℕ) → k < count → node_at (set nodes count n) k ≡ node_at nodes k
+    old k lt =
+        let ne : k ≢ count = (λ e. omega (arith, e, lt)) in
+        get_or-set_other nodes count k n 0 ne
+
+    new : node_at (set nodes count n) count ≡ n
+    new = get_or-set_same nodes count n 0 (omega (arith, len, below, listed.few))
+
+-- a node without a head is listed no longer, and the last comes in its place
+pub taken_out : (heads : List (Option (Bor WriteRec))) (nodes : List ℕ) (count last place n : ℕ) → length nodes ≡ 32 → last + 1 ≡ count → AreListed heads nodes count 32 → place < count → node_at nodes place ≡ n → head_of heads n ≡ None → AreListed heads (set nodes place (node_at nodes last)) last 32
+taken_out heads nodes count last place n len is_last listed below at none = record {
+  len = listed.len;
+  few = omega (arith, listed.few, is_last);
+  known = λ k lt. elim (this_or_other k place) [
+    | inl here ↦ subst (λ m. m < 32) (sym (ap (node_at (set nodes place (node_at nodes last))) here ∙ new)) (listed.known last (omega (arith, is_last)))
+    | inr other ↦ subst (λ m. m < 32) (sym (old k other)) (listed.known k (omega (arith, lt, is_last)))
+  ];
+  all = λ m w lt is.
+      let found = listed.all m w lt is in
+      let apart = (λ (e : found.0 ≡ place). some_none w (sym is ∙ ap (head_of heads) (sym found.2 ∙ ap (node_at nodes) e ∙ at) ∙ none)) in
+      elim (this_or_other found.0 last) [
+        | inl here ↦ (place, before_last place below (λ e. apart (here ∙ sym e)), new ∙ ap (node_at nodes) (sym here) ∙ found.2)
+        | inr other ↦ (found.0, before_last found.0 found.1 other, old found.0 apart ∙ found.2)
+      ];
+}
+  where
+    old : (k : ℕ) → ¬ (k ≡ place) → node_at (set nodes place (node_at nodes last)) k ≡ node_at nodes k
+    old k other =
+        let ne : k ≢ place = other in
+        get_or-set_other nodes place k (node_at nodes last) 0 ne
+
+    new : node_at (set nodes place (node_at nodes last)) place ≡ node_at nodes last
+    new = get_or-set_same nodes place (node_at nodes last) 0 (omega (arith, len, below, listed.few))
+
+    before_last : (k : ℕ) → k < count → ¬ (k ≡ last) → k < last
+    before_last k lt other = grind (arith, is_last, lt, other)
 
 -- ---- the heads are found one after the other
 
@@ -200,12 +306,12 @@ more_heads rows pos heads n next len lt each first k below = elim (below_or k n 
 -- ---- one turn, and the end
 
 -- the node of the least head is its own
-pub least_node : (rows : List (List (ℕ × WriteRec))) (pos : List ℕ) (sub : List Span) (heads : List (Option (Bor WriteRec))) (w : WriteRec) → ((n : ℕ) → n < 32 → IsHead rows pos sub n (head_of heads n)) → IsLeastHead heads 32 (Some w) → (head_of heads w.stamp.node ≡ Some w) × Has rows w × (clock_of pos w.stamp.node < w.stamp.clock)
+pub least_node : (rows : List (List (ℕ × WriteRec))) (pos : List ℕ) (sub : List Span) (heads : List (Option (Bor WriteRec))) (w : WriteRec) → ((n : ℕ) → n < 32 → IsHead rows pos sub n (head_of heads n)) → IsLeastHead (head_of heads) 32 (Some w) → (head_of heads w.stamp.node ≡ Some w) × Has rows w × (clock_of pos w.stamp.node < w.stamp.clock)
 least_node rows pos sub heads w each (k, lt, at, least) =
     let is = (each k lt).known w at in
     (subst (λ n. head_of heads n ≡ Some w) (sym is.1) at, is.0, subst (λ n. clock_of pos n < w.stamp.clock) (sym is.1) is.2)
 
-pub turn_heads : (rows : List (List (ℕ × WriteRec))) (pos : List ℕ) (sub : List Span) (heads : List (Option (Bor WriteRec))) (w : WriteRec) (next : Option (Bor WriteRec)) → length heads ≡ 32 → IsByStamp rows → ((n : ℕ) → n < 32 → IsHead rows pos sub n (head_of heads n)) → IsLeastHead heads 32 (Some w) → has sub w.name ≡ false → IsFirstAbove rows w.stamp.node w.stamp.clock (option_copied next) → (n : ℕ) → n < 32 → IsHead rows pos sub n (head_of (set heads w.stamp.node next) n)
+pub turn_heads : (rows : List (List (ℕ × WriteRec))) (pos : List ℕ) (sub : List Span) (heads : List (Option (Bor WriteRec))) (w : WriteRec) (next : Option (Bor WriteRec)) → length heads ≡ 32 → IsByStamp rows → ((n : ℕ) → n < 32 → IsHead rows pos sub n (head_of heads n)) → IsLeastHead (head_of heads) 32 (Some w) → has sub w.name ≡ false → IsFirstAbove rows w.stamp.node w.stamp.clock (option_copied next) → (n : ℕ) → n < 32 → IsHead rows pos sub n (head_of (set heads w.stamp.node next) n)
 turn_heads rows pos sub heads w next len by_stamp each least out first n lt = elim (this_or_other n w.stamp.node) [
   | inl here ↦
       let is = least_node rows pos sub heads w each least in
@@ -238,7 +344,7 @@ waits_behind rows pos sub heads x by_stamp each (known, in_sub, apart) = elim (l
   | inr covered ↦ absurd (apart ((by_stamp x.stamp x known).1.from_one, covered))
 ]
 
-pub next_is : (rows : List (List (ℕ × WriteRec))) (pos : List ℕ) (sub : List Span) (heads : List (Option (Bor WriteRec))) (w : WriteRec) → IsByStamp rows → ((n : ℕ) → n < 32 → IsHead rows pos sub n (head_of heads n)) → IsLeastHead heads 32 (Some w) → has sub w.name ≡ true → IsNextOf rows pos sub (Some w)
+pub next_is : (rows : List (List (ℕ × WriteRec))) (pos : List ℕ) (sub : List Span) (heads : List (Option (Bor WriteRec))) (w : WriteRec) → IsByStamp rows → ((n : ℕ) → n < 32 → IsHead rows pos sub n (head_of heads n)) → IsLeastHead (head_of heads) 32 (Some w) → has sub w.name ≡ true → IsNextOf rows pos sub (Some w)
 next_is rows pos sub heads w by_stamp each least in_sub =
     let is = least_node rows pos sub heads w each least in
     ((is.1, in_sub, λ covers. omega (arith, covers.1, is.2)), λ x waits. not_before x waits (head_of heads x.stamp.node) refl (waits_behind rows pos sub heads x by_stamp each waits))
@@ -252,6 +358,6 @@ next_is rows pos sub heads w by_stamp each least in_sub =
         let lt : x.stamp.node < 32 = (by_stamp x.stamp x waits.0).1.known_node in
         least.3 x.stamp.node u lt at (earlier x.stamp.clock x.stamp.node u.stamp.clock u.stamp.node w.stamp.clock w.stamp.node reached ((each x.stamp.node lt).known u at).1 before)
 
-pub none_is : (rows : List (List (ℕ × WriteRec))) (pos : List ℕ) (sub : List Span) (heads : List (Option (Bor WriteRec))) → IsByStamp rows → ((n : ℕ) → n < 32 → IsHead rows pos sub n (head_of heads n)) → IsLeastHead heads 32 None → IsNextOf rows pos sub None
+pub none_is : (rows : List (List (ℕ × WriteRec))) (pos : List ℕ) (sub : List Span) (heads : List (Option (Bor WriteRec))) → IsByStamp rows → ((n : ℕ) → n < 32 → IsHead rows pos sub n (head_of heads n)) → IsLeastHead (head_of heads) 32 None → IsNextOf rows pos sub None
 none_is rows pos sub heads by_stamp each none x waits =
     subst (λ h. IsReached h x.stamp.clock) (none x.stamp.node (by_stamp x.stamp x waits.0).1.known_node) (waits_behind rows pos sub heads x by_stamp each waits)

@@ -1,9 +1,9 @@
 // The next write of a stream.
 ghost use Rattle.pr_inval.specs.declared.write_rec.WriteRec.{WriteRec};
 ghost use Rattle.pr_log.specs.Known.{IsFirstAbove, IsWaiting, uncovered};
-ghost use Rattle.pr_log.specs.Waiting.{IsLeastHead, IsLesser, IsNextOf, head_of};
+ghost use Rattle.pr_log.specs.Waiting.{AreListed, IsLeastHead, IsLesser, IsNextOf, head_of, node_at};
 ghost use Rattle.pr_vectors.specs.Vector.{clock_of};
-ghost use Rattle.std.specs.Prelude.{◌≡◌, ◌≤◌, ◌<◌, ◌+◌, ℕ, IsTrue, length, option_copied};
+ghost use Rattle.std.specs.Prelude.{◌≡◌, ◌≤◌, ◌<◌, ◌+◌, ℕ, IfSome, IsTrue, length, option_copied};
 
 use crate::Steps;
 use crate::index::Index;
@@ -16,10 +16,17 @@ use std::sync::ledger::Ledger;
 // By node the first write that is not yet looked at.
 type Heads<'a> = [Option<&'a WriteRec>; 32];
 
+// The nodes that have such a write, in the first places.
+#[derive(Drop)]
+struct Nodes {
+    at: [u32; 32],
+    count: usize,
+}
+
 // The least write by stamp that is to one of the names and past the position. The nodes' writes are looked at in the
-// order of stamps, so that a write is looked at only if it comes before the answer or is the first of its node. Behind
-// `first` looks at writes to other names, and behind twice as many, and so on, it is asked whether a write waits at all;
-// 0 is never.
+// order of stamps, so that a write is looked at only if it comes before the answer or is the first of its node. To look at
+// one takes time linear in the nodes that have one left. Behind `first` looks at writes to other names, and behind twice
+// as many, and so on, it is asked whether a write waits at all; 0 is never.
 pub fn next_write<L: Ledger>(
     index: &Index,
     pos: &Vector,
@@ -31,10 +38,10 @@ pub fn next_write<L: Ledger>(
     ensures few { steps.new ≤ steps.old + uncovered index.now pos.now + 32 }
 {
     index.by_stamp();
-    let mut heads = heads(index, pos, steps);
+    let (mut heads, mut nodes) = heads(index, pos, steps);
     let mut looks = 0usize;
     let mut ask = first;
-    while let Some(write) = least(&heads) {
+    while let Some(write) = least(&heads, &nodes) {
         if sub.has(&write.name) {
             return Some(*write);
         }
@@ -45,6 +52,7 @@ pub fn next_write<L: Ledger>(
         ask = ask_after(looks, ask);
         let node = write.stamp.node();
         heads[node as usize] = index.next(node, write.stamp.clock(), steps);
+        take_out(&mut nodes, &heads, node);
     }
     None
 }
@@ -66,26 +74,72 @@ fn ask_after(looks: usize, ask: usize) -> usize {
     }
 }
 
-// The first writes past the position.
-fn heads<'a, L: Ledger>(index: &'a Index, pos: &Vector, steps: &mut Steps<L>) -> Heads<'a>
-    ensures len { length result ≡ 32 }
-    ensures each { (n : ℕ) → n < 32 → IsFirstAbove index.now n (clock_of pos.now n) (head_of result n) }
+// The first writes past the position, and the nodes that have one.
+fn heads<'a, L: Ledger>(index: &'a Index, pos: &Vector, steps: &mut Steps<L>) -> (Heads<'a>, Nodes)
+    ensures each { (n : ℕ) → n < 32 → IsFirstAbove index.now n (clock_of pos.now n) (head_of result.0 n) }
+    ensures listed { AreListed result.0 result.1.at result.1.count 32 }
     ensures steps { steps.new ≡ steps.old + 32 }
 {
     let mut heads = [None; 32];
+    let mut nodes = Nodes {
+        at: [0; 32],
+        count: 0,
+    };
     for n in 0..NODES {
         heads[n as usize] = index.next(n, pos.at(n), steps);
+        put(&mut nodes, &heads, n);
     }
-    heads
+    (heads, nodes)
+}
+
+// Lists the next node too, if it has a head.
+fn put(nodes: &mut Nodes, heads: &Heads, node: u32)
+    requires node { node < 32 }
+    requires listed { AreListed heads.now nodes.old.at nodes.old.count node }
+    ensures { AreListed heads.now nodes.new.at nodes.new.count (node + 1) }
+{
+    if heads[node as usize].is_some() {
+        nodes.at[nodes.count] = node;
+        nodes.count += 1;
+    }
+}
+
+// Lists the node no longer, if it has no head: the last that is listed comes in its place.
+fn take_out(nodes: &mut Nodes, heads: &Heads, node: u32)
+    requires node { node < 32 }
+    requires listed { AreListed heads.now nodes.old.at nodes.old.count 32 }
+    ensures { AreListed heads.now nodes.new.at nodes.new.count 32 }
+{
+    if heads[node as usize].is_some() {
+        return;
+    }
+    if let Some(place) = place_of(nodes, node) {
+        nodes.count -= 1;
+        nodes.at[place] = nodes.at[nodes.count];
+    }
+}
+
+// Where the node is listed.
+fn place_of(nodes: &Nodes, node: u32) -> Option<usize>
+    requires { nodes.now.count ≤ 32 }
+    ensures { IfSome result (λ k. (k < nodes.now.count) × (node_at nodes.now.at k ≡ node)) }
+{
+    for place in 0..nodes.count {
+        if nodes.at[place] == node {
+            return Some(place);
+        }
+    }
+    None
 }
 
 // The least of the heads by stamp.
-fn least<'a>(heads: &Heads<'a>) -> Option<&'a WriteRec>
-    ensures { IsLeastHead heads.now 32 (option_copied result) }
+fn least<'a>(heads: &Heads<'a>, nodes: &Nodes) -> Option<&'a WriteRec>
+    requires { AreListed heads.now nodes.now.at nodes.now.count 32 }
+    ensures { IsLeastHead (head_of heads.now) 32 (option_copied result) }
 {
     let mut least = None;
-    for head in heads {
-        least = lesser(least, *head);
+    for place in 0..nodes.count {
+        least = lesser(least, heads[nodes.at[place] as usize]);
     }
     least
 }

@@ -1,6 +1,6 @@
 use Rattle.std.specs.Prelude.{option_copied}
-use Rattle.pr_log.specs.Waiting.{IsLeastHead}
+use Rattle.pr_log.specs.Waiting.{IsLeastHead, head_of, node_at}
 use Rattle.pr_log.proofs.waiting.least.Given as goal
 
-abbrev pub invariant-loop-head : goal.invariant-loop-head
-invariant-loop-head l = IsLeastHead l.heads l.head-index (option_copied l.least)
+abbrev pub invariant-loop-place : goal.invariant-loop-place
+invariant-loop-place l = IsLeastHead (λ k. head_of l.heads (node_at l.nodes.at k)) l.place (option_copied l.least)
