@@ -9,7 +9,10 @@ use pr_names::Interval;
 use pr_stamps::{NoMemory, Seq};
 use std::alloc::Global;
 
-/// What the intervals share: the one that ends first is done with at each turn.
+// For how many intervals a list that is not empty has room at first: as many as an interest set or a target has.
+const MOST: usize = 16;
+
+/// What the intervals share: the one that ends first is done with at each turn. They are fewer than those of both.
 pub fn intersection(
     alloc: Global,
     a: &[Interval],
@@ -19,14 +22,14 @@ pub fn intersection(
     requires b { IsSet b.now }
     ensures { IfOk result (IsIntersection a.now b.now) }
 {
-    let least = a.len().min(b.len());
+    let first = a.len().saturating_add(b.len()).saturating_sub(1).min(MOST);
     let mut both = Seq::new(alloc);
     let mut i = 0;
     let mut j = 0;
     while i < a.len() && j < b.len() {
         let left = a[i];
         let right = b[j];
-        push(alloc, &mut both, ends::shared(&left, &right), least)?;
+        push(alloc, &mut both, ends::shared(&left, &right), first)?;
         if right.hi().is_below(&left.hi()) {
             j += 1;
         } else {
