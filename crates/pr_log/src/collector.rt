@@ -46,10 +46,13 @@ impl Collector {
         self.alloc
     }
 
-    // Adds the names of a set.
+    // Adds the names of a set, if it has any.
     pub fn add(&mut self, set: NameSet) -> Result<(), NoMemory>
         ensures { OnOk result ((o : List ℕ) → IsName o → is_gathered self.new o ≡ (is_gathered self.old o || has set o)) }
     {
+        if set.is_empty() {
+            return Ok(());
+        }
         add_set(self.alloc, &mut self.sets, set)
     }
 
@@ -79,18 +82,35 @@ impl Collector {
         self.add_name(name)
     }
 
-    // The names of all sets and the names alone.
+    // The names of all sets and the names alone. One set without names is moved, and not copied.
     pub fn union(self) -> Result<NameSet, NoMemory>
         ensures set { IfOk result IsSet }
         ensures names { IfOk result (λ set. (o : List ℕ) → IsName o → has set o ≡ is_gathered self o) }
     {
-        let mut union = set_of(self.alloc, self.names)?;
         let mut sets = self.sets;
+        let mut union = first_of(self.alloc, &self.names, &mut sets)?;
         while let Some(set) = sets.pop() {
             union = union.union(self.alloc, &set)?;
         }
         let _ = union.parts();
         Ok(union)
+    }
+}
+
+// The set of these names, or without names the last of the sets, which is taken out.
+fn first_of(
+    alloc: Global,
+    names: &BTreeSet<Name>,
+    sets: &mut Vec<NameSet>,
+) -> Result<NameSet, NoMemory>
+    ensures { IfOk result (λ set. (o : List ℕ) → IsName o → (is_in_any sets.new.items o || has set o) ≡ (is_any names.now.keys o || is_in_any sets.old.items o)) }
+{
+    if !names.is_empty() {
+        return set_of(alloc, names);
+    }
+    match sets.pop() {
+        Some(set) => Ok(set),
+        None => Ok(NameSet::empty(alloc)),
     }
 }
 
@@ -106,14 +126,13 @@ fn add_set(alloc: Global, sets: &mut Vec<NameSet>, set: NameSet) -> Result<(), N
     Ok(())
 }
 
-// The set of these names, of which each comes after those before it.
-fn set_of(alloc: Global, names: BTreeSet<Name>) -> Result<NameSet, NoMemory>
-    ensures { IfOk result (λ set. (o : List ℕ) → IsName o → has set o ≡ is_any names.keys o) }
+// The set of these names, of which each comes after those before it, so that mostly it takes one allocation.
+fn set_of(alloc: Global, names: &BTreeSet<Name>) -> Result<NameSet, NoMemory>
+    ensures { IfOk result (λ set. (o : List ℕ) → IsName o → has set o ≡ is_any names.now.keys o) }
 {
-    let mut names = names;
-    let mut set = NameSet::empty(alloc);
-    while let Some(name) = names.pop_first() {
-        put(alloc, &mut set, &name)?;
+    let mut set = NameSet::with_room(alloc, names.len())?;
+    for name in names.iter() {
+        put(alloc, &mut set, name)?;
     }
     Ok(set)
 }

@@ -185,13 +185,13 @@ impl Index {
     }
 
     // The node's first known write above one clock, if it is not above another.
-    fn first_between(&self, writer: u32, from: u64, to: u64) -> Option<WriteRec>
+    fn first_between(&self, writer: u32, from: u64, to: u64) -> Option<&WriteRec>
         requires { writer < 32 }
-        ensures some { IfSome result (λ w. (w.stamp.clock ≤ to) × IsFirstAbove self.now writer from (Some w)) }
-        ensures none { IfNone result ((x : WriteRec) → Has self.now x → x.stamp.node ≡ writer → from < x.stamp.clock → to < x.stamp.clock) }
+        ensures some { IfSome (option_copied result) (λ w. (w.stamp.clock ≤ to) × IsFirstAbove self.now writer from (Some w)) }
+        ensures none { IfNone (option_copied result) ((x : WriteRec) → Has self.now x → x.stamp.node ≡ writer → from < x.stamp.clock → to < x.stamp.clock) }
     {
         match self.first_above(writer, from) {
-            Some(write) => up_to(*write, to),
+            Some(write) => up_to(write, to),
             None => None,
         }
     }
@@ -221,9 +221,9 @@ impl Index {
 }
 
 // The write, if its clock is not above this one.
-fn up_to(write: WriteRec, clock: u64) -> Option<WriteRec>
-    ensures some { IfSome result (λ w. (w ≡ write) × (w.stamp.clock ≤ clock)) }
-    ensures none { IfNone result (clock < write.stamp.clock) }
+fn up_to(write: &WriteRec, clock: u64) -> Option<&WriteRec>
+    ensures some { IfSome (option_copied result) (λ w. (w ≡ write.now) × (w.stamp.clock ≤ clock)) }
+    ensures none { IfNone (option_copied result) (clock < write.now.stamp.clock) }
 {
     if write.stamp.clock() <= clock {
         Some(write)
