@@ -9,6 +9,8 @@ use Rattle.pr_vectors.proofs.Vectors.{is-vector_of}
 use Rattle.pr_inval.specs.declared.kind.Kind.{Kind}
 use Rattle.pr_inval.specs.declared.kind.Kind.TheVariants.{Precise, Imprecise, Checkpoint, Body}
 use Rattle.pr_inval.specs.declared.msg.Msg.{Msg}
+use Rattle.pr_inval.specs.declared.step.Step.{Step}
+use Rattle.pr_inval.specs.declared.step.Step.TheVariants as step
 use Rattle.pr_inval.specs.Points.{to_of}
 use Rattle.pr_inval.specs.Standing.{SessionMeaning, Standing, HasSentBody}
 use Rattle.pr_log.specs.Log.{Logged}
@@ -17,10 +19,10 @@ use Rattle.pr_story.specs.declared.event.Event.TheVariants.{Sent}
 use Rattle.pr_story.specs.History.{current_vector}
 use Rattle.pr_story.specs.Knowledge.{cuts_of}
 use Rattle.pr_story.specs.Sending.{IsAhead}
-use Rattle.pr_story.specs.Turns.{is_body}
+use Rattle.pr_story.specs.Turns.{IsTurn, IdleTurn, SendTurn, is_body}
 use Rattle.pr_story.proofs.Basics.{clock_zero}
 use Rattle.pr_story.proofs.Sendings.{sends}
-use Rattle.pr_node.specs.Sending.{IsNextBodyOf, IsNextKind}
+use Rattle.pr_node.specs.Sending.{IsBodyStep, IsNextBodyOf, IsNextStep, IsSentOf}
 use Rattle.pr_node.specs.Ties.{IsLogOf}
 use Rattle.pr_story.specs.Sessions.{HasGoneOn}
 
@@ -28,6 +30,11 @@ use Rattle.pr_story.specs.Sessions.{HasGoneOn}
 
 low_cut : (n : ℕ) (j : List Entry) (m : Logged) (pos : List ℕ) → IsLogOf n j m → Le m.cut pos → Le (cuts_of j) pos
 low_cut n j m pos f le = subst (λ (v : List ℕ). Le v pos) f.cut le
+
+-- what is sent where the cut is behind the position, if anything is
+abbrev pub IsNextKind : ℕ → List Entry → Standing → Option Kind → Type 0
+IsNextKind n j session None = IsTurn n j session IdleTurn
+IsNextKind n j session (Some kind) = IsTurn n j session (SendTurn kind)
 
 pub kind_ahead : (n : ℕ) (j : List Entry) (m : Logged) (session : Standing) (pos now : List ℕ) (names : List Span) (kind : Kind)
     → IsLogOf n j m → Le m.cut session.position → pos ≡ session.position → names ≡ session.names → now ≡ m.vector → (Le now pos → ⊥) → IsAhead n j names pos kind → IsNextKind n j session (Some kind)
@@ -52,6 +59,24 @@ kind_body n j m session pos now kind f le at v all bodies so = by kind so
     by (Some (Precise from to write)) so = absurd so
     by (Some (Imprecise from to target)) so = absurd so
     by (Some (Checkpoint to target floor rows)) so = absurd so
+
+-- a message whose kind meets one test meets another
+pub sent_as : (P Q : Kind → Type 0) (session : SessionMeaning) (time : ℕ) (s : Step) → ((kind : Kind) → P kind → Q kind) → IsSentOf P session time s → IsSentOf Q session time s
+sent_as P Q session time (step.Sent msg) f (stream, number, at, so) = (stream, number, at, f msg.kind so)
+sent_as P Q session time step.Idle f so = absurd so
+sent_as P Q session time (step.Stale cut) f so = absurd so
+
+pub step_ahead : (n : ℕ) (j : List Entry) (m : Logged) (session : SessionMeaning) (time : ℕ) (pos now : List ℕ) (names : List Span) (s : Step)
+    → IsLogOf n j m → Le m.cut session.standing.position → pos ≡ session.standing.position → names ≡ session.standing.names → now ≡ m.vector → (Le now pos → ⊥) → IsSentOf (IsAhead n j names pos) session time s → IsNextStep n j session time s
+step_ahead n j m session time pos now names (step.Sent msg) f le at is v past (stream, number, sent, so) = (stream, number, sent, kind_ahead n j m session.standing pos now names msg.kind f le at is v past so)
+step_ahead n j m session time pos now names step.Idle f le at is v past so = absurd so
+step_ahead n j m session time pos now names (step.Stale cut) f le at is v past so = absurd so
+
+pub step_body : (n : ℕ) (j : List Entry) (m : Logged) (session : SessionMeaning) (time : ℕ) (pos now : List ℕ) (s : Step)
+    → IsLogOf n j m → Le m.cut session.standing.position → pos ≡ session.standing.position → now ≡ m.vector → Le now pos → IsTrue session.standing.bodies → IsBodyStep j session time s → IsNextStep n j session time s
+step_body n j m session time pos now (step.Sent msg) f le at v all bodies (stream, number, sent, so) = (stream, number, sent, kind_body n j m session.standing pos now (Some msg.kind) f le at v all bodies so)
+step_body n j m session time pos now step.Idle f le at v all bodies so = kind_body n j m session.standing pos now None f le at v all bodies so
+step_body n j m session time pos now (step.Stale cut) f le at v all bodies so = absurd so
 
 -- ---- sessions
 

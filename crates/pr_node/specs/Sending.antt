@@ -29,10 +29,17 @@ abbrev pub IsKindOrNone : Option Kind → Type 0
 IsKindOrNone None = Unit {0}
 IsKindOrNone (Some kind) = IsKind kind
 
--- what is sent where the cut is behind the position, if anything is
-abbrev pub IsNextKind : ℕ → List Entry → Standing → Option Kind → Type 0
-IsNextKind n j session None = IsTurn n j session IdleTurn
-IsNextKind n j session (Some kind) = IsTurn n j session (SendTurn kind)
+-- the session's next message at this time is sent, of a kind that meets the test
+abbrev pub IsSentOf : (Kind → Type 0) → SessionMeaning → ℕ → Step → Type 0
+IsSentOf meets session time (step.Sent msg) =
+    (msg.stream ≡ session.stream) × (msg.number ≡ session.standing.number + 1) × (msg.time ≡ time) × meets msg.kind
+IsSentOf meets session time _ = ⊥
+
+-- the body that is next is sent at this time, if there is one
+abbrev pub IsBodyStep : List Entry → SessionMeaning → ℕ → Step → Type 0
+IsBodyStep j session time (step.Sent msg) = IsSentOf (λ kind. IsNextBodyOf j session.standing (Some kind)) session time (step.Sent msg)
+IsBodyStep j session time step.Idle = IsNextBodyOf j session.standing None
+IsBodyStep j session time (step.Stale cut) = ⊥
 
 -- the turn of a session at this time
 abbrev pub IsNextStep : ℕ → List Entry → SessionMeaning → ℕ → Step → Type 0

@@ -1,20 +1,20 @@
 // The invalidation that a stream's source sends where its vector is past the stream's position.
+ghost use Rattle.pr_inval.specs.Standing.{means};
 ghost use Rattle.pr_inval.specs.Targets.{IsTargetFor};
 ghost use Rattle.pr_inval.specs.declared.kind.Kind.TheVariants.{Precise};
 ghost use Rattle.pr_names.specs.Name.{IsName};
-ghost use Rattle.pr_node.specs.Sending.{IsImpreciseOf};
+ghost use Rattle.pr_node.specs.Sending.{IsImpreciseOf, IsSentOf, IsStepInRange};
 ghost use Rattle.pr_node.specs.Ties.{IsLogOf};
 ghost use Rattle.pr_sets.specs.Spans.{IsSetOf, Meet, has};
-ghost use Rattle.pr_story.specs.Ranges.{IsKind};
 ghost use Rattle.pr_story.specs.Sending.{IsAhead};
 ghost use Rattle.pr_story.specs.Told.{IsDarkBetween};
 ghost use Rattle.pr_story.specs.Turns.{IsOmitted};
 ghost use Rattle.pr_story.specs.declared.entry.Entry.{Entry};
 ghost use Rattle.pr_vectors.specs.Vector.{Le, join_of};
-ghost use Rattle.std.specs.Prelude.{◌≡◌, ◌⊎◌, ◌↔◌, ℕ, List, IfOk, IsTrue, false};
+ghost use Rattle.std.specs.Prelude.{◌≡◌, ◌⊎◌, ◌↔◌, ℕ, List, IfOk, IsOk, IsTrue, false};
 
 use crate::ranges::write_in_range;
-use pr_inval::{Kind, WriteRec, target_for};
+use pr_inval::{Kind, Msg, Session, Step, WriteRec, target_for};
 use pr_log::Log;
 use pr_names::Name;
 use pr_sets::NameSet;
@@ -29,25 +29,33 @@ pub struct Withheld {
     pub omitted: NameSet,
 }
 
-// The invalidation for these names from a position that the vector is past.
-pub fn ahead(alloc: Global, log: &Log, names: &NameSet, position: &Vector) -> Result<Kind, NoMemory>
+// Sends the invalidation for these names from a position that the vector is past, as the session's next message. The
+// message is made where it is answered, since each move of one copies hundreds of bytes.
+pub fn ahead(
+    alloc: Global,
+    log: &Log,
+    names: &NameSet,
+    position: &Vector,
+    session: &Session,
+    time: u64,
+) -> Result<Step, NoMemory>
     requires cut { Le log.now.cut position.now }
-    ensures next { IfOk result (λ kind. (n : ℕ) (j : List Entry) → IsLogOf n j log.now → IsAhead n j names.now position.now kind) }
-    ensures range { IfOk result IsKind }
+    ensures next { IfOk result (λ step. (n : ℕ) (j : List Entry) → IsLogOf n j log.now → IsSentOf (IsAhead n j names.now position.now) (means session.now) time step) }
+    ensures range { IfOk result IsStepInRange }
 {
     let vector = log.vector();
     let Some(write) = log.next_write(position, names) else {
         let to = position.join(&vector);
         let found = found_between(log, names, position, &to)?;
-        return imprecise(alloc, &found, names, position, &to);
+        return imprecise(alloc, &found, names, position, &to, session, time);
     };
     let before = position.join(&vector.below(&write.stamp));
     let found = found_between(log, names, position, &before)?;
     if is_nothing(&found) {
         let to = position.join(&vector.stamp_cut(&write.stamp));
-        return Ok(precise(position, &to, &write));
+        return precise(position, &to, &write, session, time);
     }
-    imprecise(alloc, &found, names, position, &before)
+    imprecise(alloc, &found, names, position, &before, session, time)
 }
 
 fn found_between(
@@ -85,32 +93,53 @@ fn imprecise(
     names: &NameSet,
     from: &Vector,
     to: &Vector,
-) -> Result<Kind, NoMemory>
+    session: &Session,
+    time: u64,
+) -> Result<Step, NoMemory>
     requires { ¬ Meet (has found.now.omitted) (has names.now) }
-    ensures value { IfOk result (IsImpreciseOf found.now names.now from.now to.now) }
-    ensures range { IfOk result IsKind }
+    ensures value { IfOk result (IsSentOf (IsImpreciseOf found.now names.now from.now to.now) (means session.now) time) }
+    ensures range { IfOk result IsStepInRange }
 {
     let target = target_for(alloc, &found.omitted, &found.dark, names)?;
     let _ = target.parts();
     let _ = from.at(0);
     let _ = to.at(0);
-    Ok(Kind::Imprecise {
-        from: *from,
-        to: *to,
-        target,
-    })
+    let _ = session.time();
+    Ok(Step::Sent(Msg {
+        time,
+        stream: session.stream(),
+        number: session.number() + 1,
+        kind: Kind::Imprecise {
+            from: *from,
+            to: *to,
+            target,
+        },
+    }))
 }
 
-fn precise(from: &Vector, to: &Vector, write: &WriteRec) -> Kind
-    ensures value { result ≡ Precise from.now to.now write.now }
-    ensures range { IsKind result }
+fn precise(
+    from: &Vector,
+    to: &Vector,
+    write: &WriteRec,
+    session: &Session,
+    time: u64,
+) -> Result<Step, NoMemory>
+    ensures ok { IsOk result }
+    ensures value { IfOk result (IsSentOf (λ kind. kind ≡ Precise from.now to.now write.now) (means session.now) time) }
+    ensures range { IfOk result IsStepInRange }
 {
     let _ = from.at(0);
     let _ = to.at(0);
+    let _ = session.time();
     write_in_range(write);
-    Kind::Precise {
-        from: *from,
-        to: *to,
-        write: *write,
-    }
+    Ok(Step::Sent(Msg {
+        time,
+        stream: session.stream(),
+        number: session.number() + 1,
+        kind: Kind::Precise {
+            from: *from,
+            to: *to,
+            write: *write,
+        },
+    }))
 }

@@ -2,12 +2,11 @@
 ghost use Rattle.pr_inval.specs.Standing.{means};
 ghost use Rattle.pr_inval.specs.declared.kind.Kind.{Kind};
 ghost use Rattle.pr_node.specs.Scanning.{IsScanOf};
-ghost use Rattle.pr_node.specs.Sending.{IsKindOrNone, IsNextKind, IsNextStep, IsStepInRange, IsStepOf};
+ghost use Rattle.pr_node.specs.Sending.{IsBodyStep, IsNextStep, IsStepInRange, IsStepOf};
 ghost use Rattle.pr_node.specs.Ties.{IsTied};
 ghost use Rattle.pr_story.specs.Ranges.{IsKind, IsMsg};
 ghost use Rattle.pr_story.specs.Turns.{event_of};
 ghost use Rattle.pr_story.specs.declared.event.Event.TheVariants.{Sent};
-ghost use Rattle.pr_vectors.specs.Vector.{Le};
 ghost use Rattle.std.specs.Prelude.{◌≡◌, ◌≤◌, ◌<◌, ◌+◌, ℕ, IfOk, IsTrue, reverse};
 ghost use Rattle.pr_story.specs.Sessions.{HasGoneOn};
 
@@ -34,38 +33,37 @@ pub fn next_step(
     ensures range { IfOk result IsStepInRange }
 {
     let cut = stores.log.cut_at();
-    if !cut.le(&session.pos()) {
+    let position = session.pos();
+    if !cut.le(&position) {
         return Ok(Step::Stale { cut });
     }
-    match next_kind(alloc, stores, entries, session, scan)? {
-        Some(kind) => Ok(Step::Sent(message(session, kind, time))),
-        None => Ok(Step::Idle),
+    if !stores.log.vector().le(&position) {
+        return ahead(alloc, &stores.log, session.sub(), &position, session, time);
     }
+    if session.bodies() {
+        return send_body(alloc, stores, entries, session, scan, time);
+    }
+    Ok(Step::Idle)
 }
 
-// What is sent, if anything is, where the position is not behind the cut.
-fn next_kind(
+// Sends the next body, if there is one.
+fn send_body(
     alloc: Global,
     stores: &Stores,
     entries: &[Entry],
     session: &Session,
     scan: &mut Scan,
-) -> Result<Option<Kind>, NoMemory>
-    requires cut { Le stores.now.log.cut (means session.now).standing.position }
+    time: u64,
+) -> Result<Step, NoMemory>
     requires scan { IsScanOf scan.old (means session.now).standing (reverse entries.now) }
-    ensures next { IfOk result (λ kind. (n : ℕ) → IsTied n (reverse entries.now) stores.now → IsNextKind n (reverse entries.now) (means session.now).standing kind) }
+    ensures next { IfOk result (λ step. (n : ℕ) → IsTied n (reverse entries.now) stores.now → IsBodyStep (reverse entries.now) (means session.now) time step) }
     ensures scan { (n : ℕ) → IsTied n (reverse entries.now) stores.now → IsScanOf scan.new (means session.now).standing (reverse entries.now) }
-    ensures range { IfOk result IsKindOrNone }
+    ensures range { IfOk result IsStepInRange }
 {
-    let position = session.pos();
-    if !stores.log.vector().le(&position) {
-        let kind = ahead(alloc, &stores.log, session.sub(), &position)?;
-        return Ok(Some(kind));
+    match next_body(alloc, stores, entries, session, scan)? {
+        Some(kind) => Ok(Step::Sent(message(session, kind, time))),
+        None => Ok(Step::Idle),
     }
-    if session.bodies() {
-        return next_body(alloc, stores, entries, session, scan);
-    }
-    Ok(None)
 }
 
 // The session's next message.
@@ -91,13 +89,55 @@ pub fn event_of(alloc: Global, step: &Step, stream: u32) -> Result<Event, NoMemo
     ensures { IfOk result (λ event. event ≡ event_of stream step.now) }
 {
     match step {
-        Step::Sent(msg) => {
-            let msg = msg.copy(alloc)?;
-            Ok(Event::Sent { msg })
-        }
+        Step::Sent(msg) => sent(alloc, msg),
         Step::Idle => Ok(Event::Idle { stream }),
         Step::Stale { cut } => Ok(Event::Stale { stream, cut: *cut }),
     }
+}
+
+// The event of a message that was sent, with a copy of it. Those of the two kinds that are sent most are made where they
+// are answered, since each move of a message copies hundreds of bytes.
+fn sent(alloc: Global, msg: &Msg) -> Result<Event, NoMemory>
+    ensures { IfOk result (λ event. event ≡ Sent msg.now) }
+{
+    match &msg.kind {
+        Kind::Precise { from, to, write } => Ok(Event::Sent {
+            msg: Msg {
+                time: msg.time,
+                stream: msg.stream,
+                number: msg.number,
+                kind: Kind::Precise {
+                    from: *from,
+                    to: *to,
+                    write: *write,
+                },
+            },
+        }),
+        Kind::Imprecise { from, to, target } => {
+            let target = target.copy(alloc)?;
+            Ok(Event::Sent {
+                msg: Msg {
+                    time: msg.time,
+                    stream: msg.stream,
+                    number: msg.number,
+                    kind: Kind::Imprecise {
+                        from: *from,
+                        to: *to,
+                        target,
+                    },
+                },
+            })
+        }
+        _ => sent_whole(alloc, msg),
+    }
+}
+
+// The same, of any message.
+fn sent_whole(alloc: Global, msg: &Msg) -> Result<Event, NoMemory>
+    ensures { IfOk result (λ event. event ≡ Sent msg.now) }
+{
+    let msg = msg.copy(alloc)?;
+    Ok(Event::Sent { msg })
 }
 
 // The session notes its turn at this time. It takes no memory.

@@ -1,9 +1,28 @@
-use Rattle.std.proofs.Common.{reverse, subst}
-use Rattle.std.specs.Prelude.{Option}
-use Rattle.pr_inval.specs.declared.kind.Kind.{Kind}
+use Rattle.std.proofs.Common.{ℕ, List, sym, ◌∙◌, reverse, rules}
+use Rattle.pr_inval.specs.declared.step.Step.{Step}
 use Rattle.pr_inval.specs.Standing.{means}
-use Rattle.pr_node.specs.Sending.{IsNextKind}
+use Rattle.pr_story.proofs.Withholding.{if_ok}
+use Rattle.pr_story.specs.Sending.{IsAhead}
+use Rattle.pr_node.specs.Sending.{IsBodyStep, IsNextStep, IsSentOf}
+use Rattle.pr_node.specs.Ties.{IsLogOf, IsTied}
+use Rattle.pr_node.proofs.Going.{step_ahead, step_body}
+use Rattle.pr_story.specs.declared.entry.Entry.{Entry}
 use Rattle.pr_node.proofs.turning.next_step.Goals as goal
 
-pub returns-in-None-clause-next : goal.returns-in-None-clause-next
-returns-in-None-clause-next c n f = subst (λ (k : Option Kind). IsNextKind n (reverse c.args.entries.now) (means c.args.session.now).standing k) c.in-None.is (c.in_ok-kind.ensures.next n f)
+pub returns-then-not-le-2-clause-next : goal.returns-then-not-le-2-clause-next
+returns-then-not-le-2-clause-next c =
+    let A : Step → Type 0 = λ s. (n : ℕ) (j : List Entry) → IsLogOf n j c.args.stores.now.log → IsSentOf (IsAhead n j c.sub.result.now c.pos-position.result) (means c.args.session.now) c.args.time s in
+    let N : Step → Type 0 = λ s. (n : ℕ) → IsTied n (reverse c.args.entries.now) c.args.stores.now → IsNextStep n (reverse c.args.entries.now) (means c.args.session.now) c.args.time s in
+    if_ok c.ahead.result A N
+    (λ s so n f. step_ahead n (reverse c.args.entries.now) c.args.stores.now.log (means c.args.session.now) c.args.time c.pos-position.result c.vector.result c.sub.result.now s f.log (search rules) c.pos-position.ensures.value c.sub.ensures.value c.vector.ensures.value
+    (search rules) (so n (reverse c.args.entries.now) f.log))
+    c.ahead.ensures.next
+
+pub returns-then-bodies-clause-next : goal.returns-then-bodies-clause-next
+returns-then-bodies-clause-next c =
+    let B : Step → Type 0 = λ s. (n : ℕ) → IsTied n (reverse c.args.entries.now) c.args.stores.now → IsBodyStep (reverse c.args.entries.now) (means c.args.session.now) c.args.time s in
+    let N : Step → Type 0 = λ s. (n : ℕ) → IsTied n (reverse c.args.entries.now) c.args.stores.now → IsNextStep n (reverse c.args.entries.now) (means c.args.session.now) c.args.time s in
+    if_ok c.send_body.result B N
+    (λ s so n f. step_body n (reverse c.args.entries.now) c.args.stores.now.log (means c.args.session.now) c.args.time c.pos-position.result c.vector.result s f.log (search rules) c.pos-position.ensures.value c.vector.ensures.value
+    (search rules) (sym c.bodies.ensures ∙ c.if-bodies.true) (so n f))
+    c.send_body.ensures.next
