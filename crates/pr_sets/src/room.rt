@@ -1,5 +1,4 @@
 // Lists of intervals with room.
-ghost use Rattle.pr_names.specs.Span.{Span};
 ghost use Rattle.std.specs.Prelude.{◌≡◌, [], IfOk};
 
 use pr_names::Interval;
