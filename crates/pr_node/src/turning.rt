@@ -89,55 +89,13 @@ pub fn event_of(alloc: Global, step: &Step, stream: u32) -> Result<Event, NoMemo
     ensures { IfOk result (λ event. event ≡ event_of stream step.now) }
 {
     match step {
-        Step::Sent(msg) => sent(alloc, msg),
+        Step::Sent(msg) => {
+            let msg = msg.copy(alloc)?;
+            Ok(Event::Sent { msg })
+        }
         Step::Idle => Ok(Event::Idle { stream }),
         Step::Stale { cut } => Ok(Event::Stale { stream, cut: *cut }),
     }
-}
-
-// The event of a message that was sent, with a copy of it. Those of the two kinds that are sent most are made where they
-// are answered, since each move of a message copies hundreds of bytes.
-fn sent(alloc: Global, msg: &Msg) -> Result<Event, NoMemory>
-    ensures { IfOk result (λ event. event ≡ Sent msg.now) }
-{
-    match &msg.kind {
-        Kind::Precise { from, to, write } => Ok(Event::Sent {
-            msg: Msg {
-                time: msg.time,
-                stream: msg.stream,
-                number: msg.number,
-                kind: Kind::Precise {
-                    from: *from,
-                    to: *to,
-                    write: *write,
-                },
-            },
-        }),
-        Kind::Imprecise { from, to, target } => {
-            let target = target.copy(alloc)?;
-            Ok(Event::Sent {
-                msg: Msg {
-                    time: msg.time,
-                    stream: msg.stream,
-                    number: msg.number,
-                    kind: Kind::Imprecise {
-                        from: *from,
-                        to: *to,
-                        target,
-                    },
-                },
-            })
-        }
-        _ => sent_whole(alloc, msg),
-    }
-}
-
-// The same, of any message.
-fn sent_whole(alloc: Global, msg: &Msg) -> Result<Event, NoMemory>
-    ensures { IfOk result (λ event. event ≡ Sent msg.now) }
-{
-    let msg = msg.copy(alloc)?;
-    Ok(Event::Sent { msg })
 }
 
 // The session notes its turn at this time. It takes no memory.
