@@ -13,8 +13,8 @@ use std::marker::Model;
 
 /// A stream's session: its subscription, its position, its last message number and event time, and the bodies sent
 /// since its last attach. The number is at most the time, and the time at most `MAX`. The bodies are kept by their
-/// hash, so a call takes constant time on average, whatever was sent; `begin` takes time linear in the bodies that it
-/// forgets.
+/// hash, so a call takes constant time on average, whatever was sent; `begin`, which forgets them, takes time linear in
+/// the room for them, which the most that were sent between two attaches took.
 #[derive(Drop)]
 pub struct Session {
     stream: u32,
