@@ -54,10 +54,13 @@ def seconds(words, args):
         return best(words, os.devnull, out, 0, args).seconds
 
 
-def instructions(words):
+def instructions(words, args):
     with tempfile.NamedTemporaryFile() as profile:
         counter = ["valgrind", "--tool=callgrind", f"--callgrind-out-file={profile.name}"]
-        run = subprocess.run(counter + words, capture_output=True, text=True)
+        try:
+            run = subprocess.run(counter + words, capture_output=True, text=True, timeout=args.limit)
+        except subprocess.TimeoutExpired:
+            raise TimeoutError(f"more than {args.limit} s") from None
     count = re.search(r"refs:\s+([\d,]+)", run.stderr)
     if run.returncode != 0 or count is None:
         raise RuntimeError(f"valgrind ended with {run.returncode}")
@@ -67,7 +70,7 @@ def instructions(words):
 def spent(kind, calls, names, writers, args):
     """What a run costs, in microseconds or in thousands of instructions."""
     words = [os.path.abspath(args.program), kind, str(calls), str(names), str(writers)]
-    return instructions(words) / 1e3 if args.instructions else seconds(words, args) * 1e6
+    return instructions(words, args) / 1e3 if args.instructions else seconds(words, args) * 1e6
 
 
 def each(kind, calls, names, writers, args):
