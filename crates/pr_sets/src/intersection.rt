@@ -4,7 +4,6 @@ ghost use Rattle.std.specs.Option.{option_to_list};
 ghost use Rattle.std.specs.Prelude.{◌≡◌, ◌++◌, IfOk, OnOk};
 
 use crate::ends;
-use crate::room::room;
 use pr_names::Interval;
 use pr_stamps::{NoMemory, Seq};
 use std::alloc::Global;
@@ -52,7 +51,7 @@ fn push(
         return Ok(());
     };
     if list.is_empty() {
-        *list = room(alloc, parts)?;
+        *list = Seq::with_room(alloc, parts)?;
     }
     list.push(part)
 }

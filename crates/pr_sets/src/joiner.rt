@@ -4,7 +4,6 @@ ghost use Rattle.std.specs.Prelude.{◌≡◌, [], OnOk, IfOk, None};
 
 use crate::complement::push_some;
 use crate::ends;
-use crate::room::room;
 use pr_names::Interval;
 use pr_stamps::{NoMemory, Seq};
 use std::alloc::Global;
@@ -39,7 +38,7 @@ impl Joiner {
     pub fn with_room(alloc: Global, parts: usize) -> Result<Joiner, NoMemory>
         ensures { IfOk result (λ j. j ≡ record { done = []; last = None }) }
     {
-        let done = room(alloc, parts)?;
+        let done = Seq::with_room(alloc, parts)?;
         Ok(Joiner { done, last: None })
     }
 

@@ -13,7 +13,6 @@ mod meeting;
 mod name_set;
 mod print;
 mod read;
-mod room;
 #[cfg(test)]
 mod tests;
 mod union;

@@ -6,7 +6,6 @@ ghost use Rattle.std.specs.Prelude.{◌≡◌, ℕ, List, [], ◌∷◌, ◌++�
 
 use crate::complement::complement;
 use crate::intersection::intersection;
-use crate::room::room;
 use crate::union::union;
 use crate::{SetFault, containment, lookup, meeting, print, read};
 use pr_names::{Bound, Interval, Name};
@@ -48,7 +47,7 @@ impl NameSet {
     pub fn with_room(alloc: Global, parts: usize) -> Result<NameSet, NoMemory>
         ensures { IfOk result (λ set. set ≡ []) }
     {
-        let parts = room(alloc, parts)?;
+        let parts = Seq::with_room(alloc, parts)?;
         Ok(NameSet { parts })
     }
 

@@ -13,6 +13,9 @@ fn lists_take_items(rt: HostRuntime) -> Result<(), Fail> {
     again.truncate(9);
     again.truncate(2);
     assert_eq!(rt; again.as_slice(), b"ab".as_slice());
+    let mut roomed = Seq::with_room(rt.alloc(), 2).ok().ok_or("no memory")?;
+    roomed.extend(b"ab").ok().ok_or("no memory")?;
+    assert_eq!(rt; roomed.as_slice(), again.as_slice());
     let mut roomy = Roomy::new(rt.alloc());
     roomy.reserve(2).ok().ok_or("no memory")?;
     roomy.push(7u64);
