@@ -8,7 +8,7 @@ use pr_stamps::Stamp;
 #[derive(Clone, Copy, Debug, PartialEq, Eq)]
 pub struct WriteRec {
     pub name: Name,
+    pub gone: bool,
     pub stamp: Stamp,
     pub prev: Option<Stamp>,
-    pub gone: bool,
 }

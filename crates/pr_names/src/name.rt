@@ -34,7 +34,7 @@ pub enum NameFault {
 #[derive(Clone, Copy, Debug)]
 pub struct Name {
     bytes: [u8; 64],
-    len: usize,
+    len: u8,
 }
 
 impl Model for Name {
@@ -84,7 +84,7 @@ impl Name {
         ensures value { result.now ≡ self.now }
         ensures name { IsName self.now }
     {
-        &self.bytes[..self.len]
+        &self.bytes[..self.len as usize]
     }
 
     /// The least name greater than this one, or the end: the name followed by `-`, where it has fewer than 64 bytes.
@@ -180,7 +180,7 @@ fn of(bytes: &[u8]) -> Name
     requires { IsName bytes.now }
     ensures { result ≡ bytes.now }
 {
-    let len = bytes.len();
+    let len = bytes.len() as u8;
     let mut all = [0u8; 64];
     put_front(&mut all, bytes);
     Name { bytes: all, len }
