@@ -98,6 +98,14 @@ clock_min row own n most run m v is most_is other within end = (
     is_run : (m run most : ℕ) → m ≡ min run most → m < most → m ≡ run
     is_run m run most is less = grind (arith, nat_tests)
 
+-- none of the node's points is covered
+pub clock_none : (row : List (List (ℕ × ℕ))) (own n most : ℕ) (v : List ℕ) → most ≡ clock_of v n → most ≡ 0 → IsLastClock (IsToldIn own v row) v n 0
+clock_none row own n most v is nothing = (
+  omega arith,
+  (λ c one le. absurd (omega (arith, one, le))),
+  (λ less told. absurd (omega (arith, less, is, nothing))),
+)
+
 pub clock_own : (row : List (List (ℕ × ℕ))) (own n most : ℕ) (v : List ℕ) → most ≡ clock_of v n → n ≡ own → IsLastClock (IsToldIn own v row) v n most
 clock_own row own n most v is here = (
   omega (arith, is),

@@ -207,6 +207,8 @@ fn precise_clock(row: &Row, own: u32, node: u32, vector: &Vector) -> u64
     let most = vector.at(node);
     if node == own {
         most
+    } else if most == 0 {
+        0
     } else {
         row.run(node).min(most)
     }
