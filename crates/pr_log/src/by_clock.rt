@@ -80,6 +80,7 @@ impl ByClock {
     }
 
     // The first write above the clock with its clock, in time logarithmic in the writes above it and in the late ones.
+    #[inline(never)]
     pub fn first_above(&self, clock: u64) -> Option<(u64, &WriteRec)>
         ensures { IsFirstEntry self.now clock (entry_of result) }
     {

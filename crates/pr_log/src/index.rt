@@ -114,6 +114,9 @@ impl Index {
         requires { writer < 32 }
         ensures { OnOk result ((o : List ℕ) → IsName o → IsTrue (is_gathered names.new o) ↔ (IsTrue (is_gathered names.old o) ⊎ IsOmittedOf self.now sub.now writer from to o)) }
     {
+        if to <= from {
+            return Ok(());
+        }
         if self.is_up_to(writer, to) && self.is_much_above(writer, from) {
             return self.omit_above(writer, from, sub, names);
         }
@@ -212,6 +215,7 @@ impl Index {
     }
 
     // The known write of the node with the least clock above this one. It counts no step, so no other module has it.
+    #[inline]
     fn first_above(&self, writer: u32, clock: u64) -> Option<&WriteRec>
         requires { writer < 32 }
         ensures { IsFirstAbove self.now writer clock (option_copied result) }

@@ -81,6 +81,7 @@ impl Writes {
     }
 
     // The first write above the clock, in logarithmic time, and past the last clock in constant time.
+    #[inline]
     pub fn first_above(&self, clock: u64) -> Option<&WriteRec>
         ensures { IsFirstIn self.now clock (option_copied result) }
     {
