@@ -61,10 +61,14 @@ eight_mod n =
     let h : byte_at 0 (n % 2 ^ 64) ≡ byte_at 0 n = omega arith in
     rw (a, b, c, d, e, f, g, h) refl
 
-pub frame_begins : (m : Msg) (len : ℕ) (head : List ℕ) → len ≡ length (content Two m) % 2 ^ 64 → head ≡ 2 ∷ [] ++ eight len → head ++ content Two m ≡ spelling Two m
+pub frame_begins : (m : Msg) (len : ℕ) (head fields chunk left : List ℕ) → content Two m ≡ fields ++ left → len ≡ (length left % 2 ^ 64 + length fields) % 2 ^ 64 → head ≡ 2 ∷ eight len → chunk ≡ head ++ fields → chunk ++ left ≡ spelling Two m
 unfolding spelling
-frame_begins m len head is_len is_head =
-    ap (λ (t : List ℕ). t ++ content Two m) (is_head ∙ ap (λ (t : List ℕ). 2 ∷ t) (ap eight is_len ∙ eight_mod (length (content Two m))))
+frame_begins m len head fields chunk left is_content is_len is_head is_chunk =
+    let whole : len ≡ length (content Two m) % 2 ^ 64 = omega (arith, is_len, ap length is_content, length-append fields left) in
+    ap (λ (t : List ℕ). t ++ left) is_chunk
+    ∙ append_assoc head fields left
+    ∙ ap (λ (t : List ℕ). head ++ t) (sym is_content)
+    ∙ ap (λ (t : List ℕ). t ++ content Two m) (is_head ∙ ap (λ (t : List ℕ). 2 ∷ t) (ap eight whole ∙ eight_mod (length (content Two m))))
 
 -- a part of a chunk is given
 pub part_given : (filled n at : ℕ) (old new chunk left all : List ℕ) → take (filled + n) new ≡ take filled old ++ take n (drop at chunk)

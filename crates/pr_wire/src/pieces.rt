@@ -7,7 +7,7 @@ ghost use Rattle.pr_wire.specs.declared.format.Format.{Format};
 ghost use Rattle.std.specs.Prelude.{◌≡◌, ◌≤◌, ◌<◌, ◌+◌, ◌-◌, ◌%◌, ◌^◌, [], ◌∷◌, ◌++◌, length, min, take, drop, true, false, OnErr, OnOk};
 
 use crate::width::known_width;
-use crate::writing::{Chunk, Left, put_byte, put_eight, step};
+use crate::writing::{Chunk, Left, open, put, put_byte, put_eight, step};
 use pr_inval::{Bytes, Msg};
 use pr_stamps::NoMemory;
 
@@ -21,16 +21,20 @@ pub struct Pieces<'a> {
 }
 
 impl<'a> Pieces<'a> {
-    /// The pieces of a message, in time linear in its frame, of which the length stands before the content.
+    /// The pieces of a message, in time linear in its frame, of which the length stands before the content. The fields up
+    /// to the first list are made once.
     pub fn new(msg: &'a Msg) -> Pieces<'a>
         requires { IsMessage msg.now }
         ensures rest { rest_of result ≡ spelling Format.Two msg.now }
         ensures width { IsInWidth msg.now }
     {
         known_width(msg);
-        let left = Left::Message(msg);
+        let mut fields = Chunk::new();
+        let left = open(msg, &mut fields);
+        let len = len_of(left).wrapping_add(fields.len() as u64);
         let mut chunk = Chunk::new();
-        put_head(&mut chunk, len_of(left));
+        put_head(&mut chunk, len);
+        put(&mut chunk, fields.as_slice());
         Pieces { chunk, at: 0, left }
     }
 
@@ -91,8 +95,9 @@ impl<'a> Pieces<'a> {
 
 // The format, and the length of the content.
 fn put_head(chunk: &mut Chunk, len: u64)
-    requires { length chunk.old.items ≤ 0 }
-    ensures { chunk.new.items ≡ chunk.old.items ++ 2 ∷ [] ++ eight len }
+    requires { chunk.old.items ≡ [] }
+    ensures text { chunk.new.items ≡ 2 ∷ eight len }
+    ensures size { length chunk.new.items ≡ 9 }
 {
     put_byte(chunk, 2);
     put_eight(chunk, len);

@@ -2,10 +2,11 @@
 mod chunk;
 mod fields;
 mod left;
-mod open;
+mod opening;
 mod vectors;
 
-pub use chunk::{Chunk, put_byte, put_eight};
+pub use chunk::{Chunk, put, put_byte, put_eight};
 pub use fields::{put_name, put_stamp};
 pub use left::{Left, step};
+pub use opening::open;
 pub use vectors::put_vector;

@@ -6,18 +6,16 @@ ghost use Rattle.std.specs.Prelude.{◌≡◌, ◌≤◌, ◌+◌, [], ◌++◌,
 
 use crate::writing::chunk::{Chunk, put, put_eight};
 use crate::writing::fields::{put_gone, put_mark, put_name, put_span, put_stamp};
-use crate::writing::open::open;
 use crate::writing::vectors::put_vector;
-use pr_inval::{Msg, Row};
+use pr_inval::Row;
 use pr_names::Interval;
 use pr_stamps::Mark;
 use pr_vectors::Vector;
 
-/// What is left of a message: all of it, items of a list with what follows them, or bytes of a body.
+/// What is left of a message: items of a list with what follows them, or bytes of a body.
 #[derive(Clone, Copy)]
 pub enum Left<'a> {
     Nothing,
-    Message(&'a Msg),
     Target(&'a [Interval]),
     Checkpoint {
         target: &'a [Interval],
@@ -38,7 +36,6 @@ pub fn step<'a>(left: Left<'a>, chunk: &mut Chunk) -> Left<'a>
     chunk.clear();
     match left {
         Left::Nothing => Left::Nothing,
-        Left::Message(msg) => open(msg, chunk),
         Left::Target(parts) => next_span(parts, chunk),
         Left::Checkpoint {
             target,

@@ -1,9 +1,15 @@
-use Rattle.std.proofs.Common.{◌∙◌, ◌++◌, ◌∷◌, [], ap, List, ℕ}
-use Rattle.pr_wire.specs.Spelling.{eight}
+use Rattle.std.proofs.Common.{◌∙◌, ◌+◌, ◌^◌, ◌++◌, ap, List, ℕ, length}
+use Rattle.std.specs.Prelude.{◌%◌}
+use Rattle.pr_wire.specs.Pieces.{left_text}
 use Rattle.pr_wire.proofs.WriteLemmas.{frame_begins}
 use Rattle.pr_wire.proofs.pieces.Pieces.new.Goals as goal
 
 pub returns-clause-rest : goal.returns-clause-rest
 returns-clause-rest c =
-    frame_begins c.args.msg.now c.len_of.result c.put_head.new.chunk.items c.len_of.ensures
-    (c.put_head.ensures ∙ ap (λ (t : List ℕ). (t ++ 2 ∷ []) ++ eight c.len_of.result) c.new-chunk.ensures)
+    let left = left_text c.open-left.result in
+    let fields = c.open-left.new.chunk.items in
+    frame_begins c.args.msg.now ((c.len_of.result + c.len.result) % 2 ^ 64) c.put_head.new.chunk.items fields c.put.new.chunk.items left
+    c.open-left.ensures.text
+    (ap (λ (n : ℕ). (n + c.len.result) % 2 ^ 64) c.len_of.ensures ∙ ap (λ (n : ℕ). (length left % 2 ^ 64 + n) % 2 ^ 64) c.len.ensures.value)
+    c.put_head.ensures.text
+    (c.put.ensures.text ∙ ap (λ (t : List ℕ). c.put_head.new.chunk.items ++ t) c.as_slice.ensures.value)

@@ -2,7 +2,7 @@
 ghost use Rattle.pr_wire.specs.Pieces.{left_text};
 ghost use Rattle.pr_wire.specs.Spelling.{content, kind_byte, kind_text};
 ghost use Rattle.pr_wire.specs.declared.format.Format.{Format};
-ghost use Rattle.std.specs.Prelude.{◌≡◌, ◌≤◌, ◌+◌, ◌++◌, length};
+ghost use Rattle.std.specs.Prelude.{◌≡◌, ◌≤◌, ◌+◌, [], ◌++◌, length};
 
 use crate::writing::chunk::{Chunk, put_byte, put_eight, put_four};
 use crate::writing::fields::{put_name, put_stamp, put_write};
@@ -24,9 +24,9 @@ fn kind_byte(kind: &Kind) -> u8
 /// Writes the fields up to the first list, or to the end, and says what is left.
 #[tactic(auto, unfolding(crate::specs::Spelling::content))]
 pub fn open<'a>(msg: &'a Msg, chunk: &mut Chunk) -> Left<'a>
-    requires { length chunk.old.items ≤ 0 }
-    ensures text { chunk.old.items ++ content Format.Two msg.now ≡ chunk.new.items ++ left_text result }
-    ensures some { 1 ≤ length chunk.new.items }
+    requires { chunk.old.items ≡ [] }
+    ensures text { content Format.Two msg.now ≡ chunk.new.items ++ left_text result }
+    ensures size { length chunk.new.items ≤ 684 }
 {
     put_byte(chunk, kind_byte(&msg.kind));
     put_eight(chunk, msg.time);
@@ -39,7 +39,7 @@ pub fn open<'a>(msg: &'a Msg, chunk: &mut Chunk) -> Left<'a>
 fn open_kind<'a>(kind: &'a Kind, chunk: &mut Chunk) -> Left<'a>
     requires { length chunk.old.items ≤ 21 }
     ensures text { chunk.old.items ++ kind_text Format.Two kind.now ≡ chunk.new.items ++ left_text result }
-    ensures some { length chunk.old.items ≤ length chunk.new.items }
+    ensures size { length chunk.new.items ≤ length chunk.old.items + 663 }
 {
     match kind {
         Kind::Precise { from, to, write } => {
