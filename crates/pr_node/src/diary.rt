@@ -2,10 +2,10 @@
 ghost use Rattle.pr_inval.specs.declared.node_fault.NodeFault.TheVariants as faults;
 ghost use Rattle.pr_node.specs.Calls.{IsHalted};
 ghost use Rattle.pr_story.specs.Lawful.{last_time};
-ghost use Rattle.pr_story.specs.declared.event.Event.TheVariants.{Behind};
+ghost use Rattle.pr_story.specs.declared.event.Event.TheVariants.{Behind, Gapped};
 ghost use Rattle.std.specs.Prelude.{◌≡◌, ◌≤◌, ◌<◌, ◌+◌, ◌++◌, ◌∷◌, [], Err, true, false, IfErr, IfOk, OnOk, max, reverse};
 
-use pr_inval::NodeFault;
+use pr_inval::{Msg, NodeFault};
 use pr_stamps::MAX;
 use pr_story::{Entry, Event, Journal};
 use pr_vectors::Vector;
@@ -116,7 +116,20 @@ impl Diary {
         self.spent = false;
     }
 
+    // Makes the entry that a message was not taken, since what comes before it is missing. It stands apart, as `behind`
+    // does, so that a call that has no such event makes no room for one.
+    #[inline(never)]
+    pub fn gapped(&mut self, time: u64, caller: u32, msg: Msg, has: &Vector)
+        requires room { 0 < self.old.entries.room }
+        requires early { time ≤ 4611686018427387903 }
+        ensures items { self.new.entries.items ≡ self.old.entries.items ++ (record { time = time; caller = caller; event = Gapped msg has.now }) ∷ [] }
+        ensures spent { self.new.spent ≡ false }
+    {
+        self.finish(time, caller, Event::Gapped { msg, has: *has });
+    }
+
     // Makes the entry that a client has seen what the node lacks.
+    #[inline(never)]
     pub fn behind(&mut self, time: u64, caller: u32, client: u32, needs: &Vector, has: &Vector)
         requires room { 0 < self.old.entries.room }
         requires early { time ≤ 4611686018427387903 }

@@ -217,8 +217,7 @@ impl Node {
         let time = self.diary.begin(msg.time)?;
         let has = self.stores.log.vector();
         if let Some(needs) = gap(&msg.kind, &has) {
-            let event = Event::Gapped { msg, has };
-            self.diary.finish(time, caller, event);
+            self.diary.gapped(time, caller, msg, &has);
             return Ok(Taken::Gap { needs, has, time });
         }
         take(self.alloc, &mut self.stores, &msg.kind)?;
