@@ -1,6 +1,6 @@
 -- Entries in the order of their clocks, and others behind them.
 use Rattle.std.proofs.Common.{◌≡◌, ℕ, ◌≤◌, ◌<◌, ◌+◌, ◌-◌, zero, suc, List, [], ◌∷◌, ◌++◌, length, get_or, take, drop, Option, None, Some, Bool, true, false, cond, refl, sym, ◌∙◌, ap, subst, arith, inl, inr, nat_le, nat_lt, nat_eq, not}
-use Rattle.std.specs.Prelude.{IfSome, IfNone, filter}
+use Rattle.std.specs.Prelude.{IfSome, IfNone, filter, remove, zip, ◌≢◌}
 use Rattle.std.specs.Borrow.{Bor}
 use Rattle.std.specs.BTreeMap.{insert_entry}
 use Rattle.std.specs.BTreeMap.Range.{IsLeBy, IsLtBy}
@@ -17,7 +17,6 @@ use Rattle.pr_log.specs.Known.{IsForgottenUpTo, at_clock, count_above}
 use Rattle.pr_log.proofs.Clocks.{key_up_to, less_key, less_or, none_of, some_none, this_key, this_or}
 use Rattle.pr_log.proofs.Counts.{count_insert}
 use Rattle.pr_log.proofs.Merge.{count_more, one}
-use Rattle.pr_log.proofs.Places.{this_or_other}
 
 abbrev Entries : Type 0
 Entries = List (ℕ × WriteRec)
@@ -36,114 +35,117 @@ pub count_both : (xs ys : Entries) (c : ℕ) → count_above (xs ++ ys) c ≡ co
 count_both [] ys c = omega arith
 count_both (e ∷ xs) ys c = omega (arith, count_more e (xs ++ ys) c, count_more e xs c, count_both xs ys c)
 
--- ---- rising clocks
+-- ---- rising clocks, each with its write
 
-rise_tail : (e : ℕ × WriteRec) (es : Entries) → Rise (e ∷ es) → Rise es
-rise_tail e es h i j d lt within = h (suc i) (suc j) d (omega (arith, lt)) (omega (arith, within))
+rise_tail : (k : ℕ) (cs : List ℕ) → Rise (k ∷ cs) → Rise cs
+rise_tail k cs h i j d lt within = h (suc i) (suc j) d (omega (arith, lt)) (omega (arith, within))
 
-at_index : (es : Entries) (i : ℕ) (d : ℕ × WriteRec) → Rise es → i < length es → at_clock es (get_or es i d).0 ≡ Some (get_or es i d).1
-at_index [] i d h lt = absurd (omega (arith, lt))
-at_index (e ∷ es) zero d h lt = ap (λ b. cond b (Some e.1) (at_clock es e.0)) (this_key e.0 e.0 refl)
-at_index (e ∷ es) (suc i) d h lt =
-    let below : e.0 < (get_or es i d).0 = h 0 (suc i) d (omega arith) lt in
-    ap (λ b. cond b (Some e.1) (at_clock es (get_or es i d).0)) (apart (get_or es i d).0 e.0 below) ∙ at_index es i d (rise_tail e es h) (omega (arith, lt))
+pub rise_drop : (cs : List ℕ) (i : ℕ) → Rise cs → Rise (drop i cs)
+rise_drop cs i h a b d lt within = omega (
+  arith,
+  h (i + a) (i + b) d (omega (arith, lt)) (omega (arith, within, length-drop i cs)),
+  get_or-drop i cs a d,
+  get_or-drop i cs b d,
+)
+
+at_index : (cs : List ℕ) (ws : List WriteRec) (i d : ℕ) (w : WriteRec) → Rise cs → length cs ≡ length ws → i < length cs → at_clock (zip cs ws) (get_or cs i d) ≡ Some (get_or ws i w)
+at_index [] ws i d w h pairs lt = absurd (omega (arith, lt))
+at_index (k ∷ cs) [] i d w h pairs lt = absurd (omega (arith, pairs))
+at_index (k ∷ cs) (v ∷ ws) zero d w h pairs lt = ap (λ b. cond b (Some v) (at_clock (zip cs ws) k)) (this_key k k refl)
+at_index (k ∷ cs) (v ∷ ws) (suc i) d w h pairs lt =
+    let below : k < get_or cs i d = h 0 (suc i) d (omega arith) lt in
+    ap (λ b. cond b (Some v) (at_clock (zip cs ws) (get_or cs i d))) (apart (get_or cs i d) k below) ∙ at_index cs ws i d w (rise_tail k cs h) (omega (arith, pairs)) (omega (arith, lt))
   where
     apart : (c k : ℕ) → k < c → is_eq (nat_cmp c k) ≡ false
     apart c k lt = grind (arith, nat_tests)
 
-found_index : (es : Entries) (c : ℕ) (d : ℕ × WriteRec) → IsSome (at_clock es c) → (i : ℕ) × (i < length es) × ((get_or es i d).0 ≡ c)
-found_index [] c d some = absurd (nothing some)
+found_index : (cs : List ℕ) (ws : List WriteRec) (c d : ℕ) → IsSome (at_clock (zip cs ws) c) → (i : ℕ) × (i < length cs) × (get_or cs i d ≡ c)
+found_index [] ws c d some = absurd (nothing some)
   where
     nothing : IsSome {T = WriteRec} None → ⊥
     nothing e = cc
-found_index (e ∷ es) c d some = elim (this_or c e.0) [
+found_index (k ∷ cs) [] c d some = absurd (nothing some)
+  where
+    nothing : IsSome {T = WriteRec} None → ⊥
+    nothing e = cc
+found_index (k ∷ cs) (w ∷ ws) c d some = elim (this_or c k) [
   | inl here ↦ (0, omega arith, sym here)
   | inr other ↦
-      let t = found_index es c d (subst (λ b. IsSome (cond b (Some e.1) (at_clock es c))) other some) in
+      let t = found_index cs ws c d (subst (λ b. IsSome (cond b (Some w) (at_clock (zip cs ws) c))) other some) in
       (suc t.0, omega (arith, t.1), t.2)
 ]
+
+-- none of the clocks is this one
+none_at : (cs : List ℕ) (ws : List WriteRec) (c : ℕ) → ((i d : ℕ) → i < length cs → get_or cs i d ≢ c) → at_clock (zip cs ws) c ≡ None
+none_at cs ws c other = none_of (at_clock (zip cs ws) c) (λ some. let t = found_index cs ws c 0 some in other t.0 0 t.1 t.2)
 
 -- ---- the first entry above a clock
 
 -- the clocks up to one come first
-pub up_to_first : (es : Entries) (c i j : ℕ) (d : ℕ × WriteRec) → Rise es → i ≤ j → j < length es → nat_le (get_or es j d).0 c ≡ true → nat_le (get_or es i d).0 c ≡ true
-up_to_first es c i j d rise le lt t = elim (less_or i j) [
-  | inl before ↦ lesser (get_or es i d).0 (get_or es j d).0 (rise i j d before lt) t
-  | inr from ↦ let same : i ≡ j = omega (arith, le, from) in ap (λ k. nat_le (get_or es k d).0 c) same ∙ t
+pub up_to_first : (cs : List ℕ) (c i j d : ℕ) → Rise cs → i ≤ j → j < length cs → nat_le (get_or cs j d) c ≡ true → nat_le (get_or cs i d) c ≡ true
+up_to_first cs c i j d rise le lt t = elim (less_or i j) [
+  | inl before ↦ lesser (get_or cs i d) (get_or cs j d) (rise i j d before lt) t
+  | inr from ↦ let same : i ≡ j = omega (arith, le, from) in ap (λ k. nat_le (get_or cs k d) c) same ∙ t
 ]
   where
     lesser : (a b : ℕ) → a < b → nat_le b c ≡ true → nat_le a c ≡ true
     lesser a b lt t = grind (arith, nat_tests)
 
-pub is_up_to : (a c : ℕ) → nat_le a c ≡ true → a ≤ c
+is_up_to : (a c : ℕ) → nat_le a c ≡ true → a ≤ c
 is_up_to a c t = grind (arith, nat_tests)
 
-pub is_above : (a c : ℕ) → nat_le a c ≡ false → c < a
+is_above : (a c : ℕ) → nat_le a c ≡ false → c < a
 is_above a c t = grind (arith, nat_tests)
 
--- ---- the entries from a place on
+-- ---- the clocks from a place on
 
-abbrev part : Entries → ℕ → Entries
-part es i = take (length es - i) (drop i es)
+abbrev part : List ℕ → ℕ → List ℕ
+part cs i = take (length cs - i) (drop i cs)
 
-part_is : (es : Entries) (i : ℕ) → part es i ≡ drop i es
-part_is es i = take_all (length es - i) (drop i es) (omega (arith, length-drop i es))
+part_is : (cs : List ℕ) (i : ℕ) → part cs i ≡ drop i cs
+part_is cs i = take_all (length cs - i) (drop i cs) (omega (arith, length-drop i cs))
 
-part_at : (es : Entries) (i k : ℕ) (d : ℕ × WriteRec) → get_or (part es i) k d ≡ get_or es (i + k) d
-part_at es i k d = ap (λ l. get_or l k d) (part_is es i) ∙ get_or-drop i es k d
+part_at : (cs : List ℕ) (i k d : ℕ) → get_or (part cs i) k d ≡ get_or cs (i + k) d
+part_at cs i k d = ap (λ l. get_or l k d) (part_is cs i) ∙ get_or-drop i cs k d
 
-part_length : (es : Entries) (i : ℕ) → length (part es i) ≡ length es - i
-part_length es i = ap length (part_is es i) ∙ length-drop i es
+part_length : (cs : List ℕ) (i : ℕ) → length (part cs i) ≡ length cs - i
+part_length cs i = ap length (part_is cs i) ∙ length-drop i cs
 
-pub rise_part : (es : Entries) (i : ℕ) → Rise es → Rise (part es i)
-rise_part es i h a b d lt within = omega (
-  arith,
-  h (i + a) (i + b) d (omega (arith, lt)) (omega (arith, within, part_length es i)),
-  ap (λ (e : ℕ × WriteRec). e.0) (part_at es i a d),
-  ap (λ (e : ℕ × WriteRec). e.0) (part_at es i b d),
-)
+pub rise_part : (cs : List ℕ) (i : ℕ) → Rise cs → Rise (part cs i)
+rise_part cs i h = subst Rise (sym (part_is cs i)) (rise_drop cs i h)
 
--- those before a place with an entry up to the clock
-pub up_to_before : (es : Entries) (c at k : ℕ) (e d : ℕ × WriteRec) → Rise es → at < length es → (get_or es at e).0 ≤ c → k < at → (get_or es k d).0 ≤ c
-up_to_before es c at k e d h lt le before = omega (arith, h k at d before lt, le, ap (λ (x : ℕ × WriteRec). x.0) (get_or_default es at d e lt))
+-- those before a place with a clock up to this one
+pub up_to_before : (cs : List ℕ) (c at k e d : ℕ) → Rise cs → at < length cs → get_or cs at e ≤ c → k < at → get_or cs k d ≤ c
+up_to_before cs c at k e d h lt le before = omega (arith, h k at d before lt, le, get_or_default cs at d e lt)
 
 -- how many are up to the clock is known of a part before which all are
-pub within_part : (es : Entries) (c i r k : ℕ) (d : ℕ × WriteRec) → ((k : ℕ) (d : ℕ × WriteRec) → k < i → (get_or es k d).0 ≤ c) → (i ≤ k → k < i + r → nat_le (get_or (part es i) (k - i) d).0 c ≡ true) → k < i + r → (get_or es k d).0 ≤ c
-within_part es c i r k d before within lt = elim (less_or k i) [
+pub within_part : (cs : List ℕ) (c i r k d : ℕ) → ((k d : ℕ) → k < i → get_or cs k d ≤ c) → (i ≤ k → k < i + r → nat_le (get_or (part cs i) (k - i) d) c ≡ true) → k < i + r → get_or cs k d ≤ c
+within_part cs c i r k d before within lt = elim (less_or k i) [
   | inl less ↦ before k d less
   | inr from ↦
       let same : i + (k - i) ≡ k = omega (arith, from) in
-      omega (arith, is_up_to (get_or (part es i) (k - i) d).0 c (within from lt), ap (λ (e : ℕ × WriteRec). e.0) (part_at es i (k - i) d), ap (λ j. (get_or es j d).0) same)
+      omega (arith, is_up_to (get_or (part cs i) (k - i) d) c (within from lt), part_at cs i (k - i) d, ap (λ j. get_or cs j d) same)
 ]
 
-pub above_part : (es : Entries) (c i r k : ℕ) (d : ℕ × WriteRec) → (r ≤ k - i → k - i < length (part es i) → nat_le (get_or (part es i) (k - i) d).0 c ≡ false) → i + r ≤ k → k < length es → c < (get_or es k d).0
-above_part es c i r k d above le lt =
+pub above_part : (cs : List ℕ) (c i r k d : ℕ) → (r ≤ k - i → k - i < length (part cs i) → nat_le (get_or (part cs i) (k - i) d) c ≡ false) → i + r ≤ k → k < length cs → c < get_or cs k d
+above_part cs c i r k d above le lt =
     let same : i + (k - i) ≡ k = omega (arith, le) in
-    omega (arith, is_above (get_or (part es i) (k - i) d).0 c (above (omega (arith, le)) (omega (arith, le, lt, part_length es i))), ap (λ (e : ℕ × WriteRec). e.0) (part_at es i (k - i) d), ap (λ j. (get_or es j d).0) same)
+    omega (arith, is_above (get_or (part cs i) (k - i) d) c (above (omega (arith, le)) (omega (arith, le, lt, part_length cs i))), part_at cs i (k - i) d, ap (λ j. get_or cs j d) same)
 
-pub none_in_order : (es : Entries) (c at : ℕ) → at ≡ length es → ((k : ℕ) (d : ℕ × WriteRec) → k < at → (get_or es k d).0 ≤ c) → IsFirstEntry es c None
-none_in_order es c at end within k above = none_of (at_clock es k) (λ some.
-    let t = found_index es k (0, unwrapped (at_clock es k) some) some in
-    omega (arith, within t.0 (0, unwrapped (at_clock es k) some) (omega (arith, t.1, end)), t.2, above))
-  where
-    unwrapped : (r : Option WriteRec) → IsSome r → WriteRec
-    unwrapped None h = absurd (none h)
-      where
-        none : IsSome {T = WriteRec} None → ⊥
-        none e = cc
-    unwrapped (Some w) h = w
+pub none_in_order : (cs : List ℕ) (ws : List WriteRec) (c at : ℕ) → at ≡ length cs → ((k d : ℕ) → k < at → get_or cs k d ≤ c) → IsFirstEntry (zip cs ws) c None
+none_in_order cs ws c at end within k above = none_at cs ws k (λ i d lt same. omega (arith, within i d (omega (arith, lt, end)), same, above))
 
-pub first_in_order : (es : Entries) (c at : ℕ) (d : ℕ × WriteRec) → Rise es → at < length es → ((k : ℕ) (d : ℕ × WriteRec) → k < at → (get_or es k d).0 ≤ c) → ((k : ℕ) (d : ℕ × WriteRec) → at ≤ k → k < length es → c < (get_or es k d).0) → IsFirstEntry es c (Some (get_or es at d))
-first_in_order es c at d rise lt within above = (
+pub first_in_order : (cs : List ℕ) (ws : List WriteRec) (c at d : ℕ) (w : WriteRec) → Rise cs → length cs ≡ length ws → at < length cs → ((k d : ℕ) → k < at → get_or cs k d ≤ c) → ((k d : ℕ) → at ≤ k → k < length cs → c < get_or cs k d) → IsFirstEntry (zip cs ws) c (Some (get_or cs at d, get_or ws at w))
+first_in_order cs ws c at d w rise pairs lt within above = (
   above at d (omega arith) lt,
-  at_index es at d rise lt,
+  at_index cs ws at d w rise pairs lt,
   λ k past some.
-      let t = found_index es k d some in
+      let t = found_index cs ws k d some in
       elim (less_or at t.0) [
         | inl later ↦ omega (arith, rise at t.0 d later t.1, t.2)
         | inr upto ↦ elim (less_or t.0 at) [
           | inl before ↦ absurd (omega (arith, within t.0 d before, t.2, past))
-          | inr from ↦ let same : t.0 ≡ at = omega (arith, upto, from) in omega (arith, ap (λ i. (get_or es i d).0) same, t.2)
+          | inr from ↦ let same : t.0 ≡ at = omega (arith, upto, from) in omega (arith, ap (λ i. get_or cs i d) same, t.2)
         ]
       ],
 )
@@ -200,17 +202,27 @@ first_late ys c (Some e) entry above first none = (above, entry, λ k past some.
 
 -- ---- an entry more
 
-pub past_last : (es : Entries) (c : ℕ) (e : ℕ × WriteRec) → Rise es → nat_lt (get_or es (length es - 1) e).0 c ≡ true → (k : ℕ) (d : ℕ × WriteRec) → k < length es → (get_or es k d).0 < c
-past_last es c e rise past k d lt = elim (less_or k (length es - 1)) [
-  | inl before ↦ omega (arith, rise k (length es - 1) d before (omega (arith, lt)), last, less (get_or es (length es - 1) e).0 past)
-  | inr from ↦ let same : k ≡ length es - 1 = omega (arith, lt, from) in omega (arith, ap (λ i. (get_or es i d).0) same, last, less (get_or es (length es - 1) e).0 past)
+pub past_last : (cs : List ℕ) (c e : ℕ) → Rise cs → nat_lt (get_or cs (length cs - 1) e) c ≡ true → (k d : ℕ) → k < length cs → get_or cs k d < c
+past_last cs c e rise past k d lt = elim (less_or k (length cs - 1)) [
+  | inl before ↦ omega (arith, rise k (length cs - 1) d before (omega (arith, lt)), last, less (get_or cs (length cs - 1) e) past)
+  | inr from ↦ let same : k ≡ length cs - 1 = omega (arith, lt, from) in omega (arith, ap (λ i. get_or cs i d) same, last, less (get_or cs (length cs - 1) e) past)
 ]
   where
-    last : (get_or es (length es - 1) d).0 ≡ (get_or es (length es - 1) e).0
-    last = ap (λ (x : ℕ × WriteRec). x.0) (get_or_default es (length es - 1) d e (omega (arith, lt)))
+    last : get_or cs (length cs - 1) d ≡ get_or cs (length cs - 1) e
+    last = get_or_default cs (length cs - 1) d e (omega (arith, lt))
 
     less : (a : ℕ) → nat_lt a c ≡ true → a < c
     less a t = grind (arith, nat_tests)
+
+-- a clock and its write are pushed
+pub zip_pushed : (cs new : List ℕ) (ws more : List WriteRec) (k : ℕ) (w : WriteRec) → length cs ≡ length ws → new ≡ cs ++ k ∷ [] → more ≡ ws ++ w ∷ [] → zip new more ≡ zip cs ws ++ (k, w) ∷ []
+zip_pushed cs new ws more k w pairs is those = (λ i. zip (is i) (those i)) ∙ behind cs ws pairs
+  where
+    behind : (cs : List ℕ) (ws : List WriteRec) → length cs ≡ length ws → zip (cs ++ k ∷ []) (ws ++ w ∷ []) ≡ zip cs ws ++ (k, w) ∷ []
+    behind [] [] pairs = refl
+    behind [] (v ∷ ws) pairs = absurd (omega (arith, pairs))
+    behind (c ∷ cs) [] pairs = absurd (omega (arith, pairs))
+    behind (c ∷ cs) (v ∷ ws) pairs = ap (λ l. (c, v) ∷ l) (behind cs ws (omega (arith, pairs)))
 
 one_more : (q : Option WriteRec) (c k : ℕ) (w : WriteRec) (r : Option WriteRec) → (k ≡ c → option_or q r ≡ None) → option_or (option_or q (cond (is_eq (nat_cmp c k)) (Some w) None)) r ≡ cond (is_eq (nat_cmp k c)) (Some w) (option_or q r)
 one_more q c k w r none = elim (this_or c k) [
@@ -355,47 +367,40 @@ inserted_back xs ys new k w none is =
 pub taken_out : (xs new ys less : Entries) (c : ℕ) → new ≡ without c xs → less ≡ without c ys → new ++ less ≡ without c (xs ++ ys)
 taken_out xs new ys less c is those = (λ i. is i ++ those i) ∙ sym (without_both xs ys c)
 
+-- the clock is not in the list, or it is taken out with its write
+pub zip_without : (cs : List ℕ) (ws : List WriteRec) (c : ℕ) → ((i d : ℕ) → i < length cs → get_or cs i d ≢ c) → zip cs ws ≡ without c (zip cs ws)
+zip_without cs ws c other = sym (whole (zip cs ws) c (none_at cs ws c other))
+
+pub zip_removed : (cs : List ℕ) (ws : List WriteRec) (at c d : ℕ) → Rise cs → length cs ≡ length ws → at < length cs → get_or cs at d ≡ c → zip (remove cs at) (remove ws at) ≡ without c (zip cs ws)
+zip_removed [] ws at c d rise pairs lt here = absurd (omega (arith, lt))
+zip_removed (k ∷ cs) [] at c d rise pairs lt here = absurd (omega (arith, pairs))
+zip_removed (k ∷ cs) (w ∷ ws) zero c d rise pairs lt here =
+    zip_without cs ws c (λ i e within same. omega (arith, rise 0 (suc i) e (omega arith) (omega (arith, within)), same, here))
+    ∙ sym (ap (λ b. cond (not b) ((k, w) ∷ without c (zip cs ws)) (without c (zip cs ws))) (same_clock k here))
+  where
+    same_clock : (k : ℕ) → k ≡ c → nat_eq k c ≡ true
+    same_clock k e = grind (arith, nat_tests)
+zip_removed (k ∷ cs) (w ∷ ws) (suc at) c d rise pairs lt here =
+    ap (λ l. (k, w) ∷ l) (zip_removed cs ws at c d (rise_tail k cs rise) (omega (arith, pairs)) (omega (arith, lt)) here)
+    ∙ sym (ap (λ b. cond (not b) ((k, w) ∷ without c (zip cs ws)) (without c (zip cs ws))) (lower k (omega (arith, rise 0 (suc at) d (omega arith) lt, here))))
+  where
+    lower : (k : ℕ) → k < c → nat_eq k c ≡ false
+    lower k lt = grind (arith, nat_tests)
+
 -- ---- whether a clock has an entry
 
-none_at : (es : Entries) (c : ℕ) (x : ℕ × WriteRec) → ((i : ℕ) → i < length es → ¬ ((get_or es i x).0 ≡ c)) → is_some (at_clock es c) ≡ false
-none_at es c x other = by (at_clock es c) (λ some. let t = found_index es c x some in other t.0 t.1 t.2)
+-- the slice is of the clocks
+pub has_place : (slice cs : List ℕ) (ws : List WriteRec) (c : ℕ) (r : Option ℕ) → slice ≡ cs → Rise cs → length cs ≡ length ws → IfSome r (λ at. at < length slice) → IfSome r (λ at. (d : ℕ) → get_or slice at d ≡ c) → IfNone r ((k d : ℕ) → k < length slice → get_or slice k d ≢ c) → is_some r ≡ is_some (at_clock (zip cs ws) c)
+has_place slice cs ws c None same rise pairs within found none =
+    sym (ap is_some (none_at cs ws c (subst (λ (l : List ℕ). (k d : ℕ) → k < length l → get_or l k d ≢ c) same none)))
+has_place slice cs ws c (Some at) same rise pairs within found none =
+    there cs ws rise pairs (subst (λ (l : List ℕ). at < length l) same within) (subst (λ (l : List ℕ). (d : ℕ) → get_or l at d ≡ c) same found)
   where
-    by : (r : Option WriteRec) → (IsSome r → ⊥) → is_some r ≡ false
-    by None h = refl
-    by (Some w) h = absurd (h refl)
-
-pub has_none : (es : Entries) (c at : ℕ) → ¬ (0 < at) → ((k : ℕ) (d : ℕ × WriteRec) → at ≤ k → k < length es → c < (get_or es k d).0) → nat_lt 0 at ≡ is_some (at_clock es c)
-has_none es c at none_upto above = test at none_upto ∙ sym (none c es (λ k d lt. above k d (from k) lt))
-  where
-    from : (k : ℕ) → at ≤ k
-    from k = elim (less_or 0 at) [ inl some ↦ absurd (none_upto some) | inr none ↦ omega (arith, none) ]
-
-    test : (a : ℕ) → ¬ (0 < a) → nat_lt 0 a ≡ false
-    test a h = grind (arith, nat_tests)
-
-    none : (c : ℕ) (es : Entries) → ((k : ℕ) (d : ℕ × WriteRec) → k < length es → c < (get_or es k d).0) → is_some (at_clock es c) ≡ false
-    none c [] h = refl
-    none c (e ∷ es) h = none_at (e ∷ es) c e (λ i lt same. omega (arith, h i e lt, same))
-
-pub has_last : (es : Entries) (c at : ℕ) (x : ℕ × WriteRec) → Rise es → at ≤ length es → 0 < at → (get_or es (at - 1) x).0 ≤ c → ((k : ℕ) (d : ℕ × WriteRec) → at ≤ k → k < length es → c < (get_or es k d).0) → nat_eq (get_or es (at - 1) x).0 c ≡ is_some (at_clock es c)
-has_last es c at x rise most some upto above = elim (this_or_other (get_or es (at - 1) x).0 c) [
-  | inl here ↦
-      let found : at_clock es c ≡ Some (get_or es (at - 1) x).1 = ap (at_clock es) (sym here) ∙ at_index es (at - 1) x rise (omega (arith, most, some)) in
-      same (get_or es (at - 1) x).0 here ∙ sym (ap is_some found)
-  | inr other ↦ not_same (get_or es (at - 1) x).0 other ∙ sym (none_at es c x (λ i lt e. elim (less_or i at) [
-    | inl before ↦ elim (less_or i (at - 1)) [
-      | inl earlier ↦ absurd (omega (arith, rise i (at - 1) x earlier (omega (arith, most, some)), upto, other, e))
-      | inr from ↦ let last : i ≡ at - 1 = omega (arith, before, from) in other (ap (λ k. (get_or es k x).0) (sym last) ∙ e)
-    ]
-    | inr from ↦ absurd (omega (arith, above i x from lt, e))
-  ]))
-]
-  where
-    same : (a : ℕ) → a ≡ c → nat_eq a c ≡ true
-    same a e = grind (arith, nat_tests)
-
-    not_same : (a : ℕ) → ¬ (a ≡ c) → nat_eq a c ≡ false
-    not_same a e = grind (arith, nat_tests)
+    there : (cs : List ℕ) (ws : List WriteRec) → Rise cs → length cs ≡ length ws → at < length cs → ((d : ℕ) → get_or cs at d ≡ c) → true ≡ is_some (at_clock (zip cs ws) c)
+    there [] ws rise pairs within found = absurd (omega (arith, within))
+    there (k ∷ cs) [] rise pairs within found = absurd (omega (arith, pairs))
+    there (k ∷ cs) (w ∷ ws) rise pairs within found =
+        sym (ap is_some (ap (at_clock (zip (k ∷ cs) (w ∷ ws))) (sym (found k)) ∙ at_index (k ∷ cs) (w ∷ ws) at k w rise pairs within))
 
 pub some_first : (xs ys : Entries) (c : ℕ) (a : Bool) → a ≡ true → a ≡ is_some (at_clock xs c) → a ≡ is_some (at_clock (xs ++ ys) c)
 some_first xs ys c a has first = has ∙ by (at_clock xs c) (at_clock ys c) (sym has ∙ first) ∙ ap is_some (sym (at_both xs ys c))
@@ -410,6 +415,29 @@ some_second xs ys c a b no_first first second = second ∙ by (at_clock xs c) (a
     by : (q r : Option WriteRec) → false ≡ is_some q → is_some r ≡ is_some (option_or q r)
     by None r h = refl
     by (Some w) r h = cc
+
+-- the clocks up to one are dropped with their writes
+pub zip_dropped : (cs : List ℕ) (ws : List WriteRec) (n c : ℕ) → ((k d : ℕ) → k < n → get_or cs k d ≤ c) → ((k d : ℕ) → n ≤ k → k < length cs → c < get_or cs k d) → zip (drop n cs) (drop n ws) ≡ filter (λ e. nat_lt c e.0) (zip cs ws)
+zip_dropped [] ws zero c within above = refl
+zip_dropped [] ws (suc n) c within above = refl
+zip_dropped (k ∷ cs) [] zero c within above = refl
+zip_dropped (k ∷ cs) [] (suc n) c within above = nothing (drop n cs)
+  where
+    nothing : (l : List ℕ) → zip {X = WriteRec} l [] ≡ []
+    nothing [] = refl
+    nothing (x ∷ l) = refl
+zip_dropped (k ∷ cs) (w ∷ ws) zero c within above =
+    ap (λ l. (k, w) ∷ l) (zip_dropped cs ws zero c (λ i d lt. absurd (omega (arith, lt))) (λ i d from lt. above (suc i) d (omega arith) (omega (arith, lt))))
+    ∙ sym (ap (λ b. cond b ((k, w) ∷ filter (λ e. nat_lt c e.0) (zip cs ws)) (filter (λ e. nat_lt c e.0) (zip cs ws))) (is_past k (above 0 k (omega arith) (omega arith))))
+  where
+    is_past : (k : ℕ) → c < k → nat_lt c k ≡ true
+    is_past k lt = grind (arith, nat_tests)
+zip_dropped (k ∷ cs) (w ∷ ws) (suc n) c within above =
+    zip_dropped cs ws n c (λ i d lt. within (suc i) d (omega (arith, lt))) (λ i d from lt. above (suc i) d (omega (arith, from)) (omega (arith, lt)))
+    ∙ sym (ap (λ b. cond b ((k, w) ∷ filter (λ e. nat_lt c e.0) (zip cs ws)) (filter (λ e. nat_lt c e.0) (zip cs ws))) (not_past k (within 0 k (omega arith))))
+  where
+    not_past : (k : ℕ) → k ≤ c → nat_lt c k ≡ false
+    not_past k le = grind (arith, nat_tests)
 
 count_kept : (test : ℕ → Bool) (es : Entries) (c : ℕ) → count_above (filter (λ e. test e.0) es) c ≤ count_above es c
 count_kept test [] c = omega arith

@@ -5,8 +5,8 @@ use Rattle.pr_inval.specs.declared.write_rec.WriteRec.{WriteRec}
 use Rattle.pr_log.specs.Known.{at_clock}
 
 -- each clock is below all later ones
-abbrev pub Rise : List (ℕ × WriteRec) → Type 0
-Rise entries = AllPairs (λ (a : ℕ × WriteRec) (b : ℕ × WriteRec). a.0 < b.0) entries
+abbrev pub Rise : List ℕ → Type 0
+Rise clocks = AllPairs (λ (a : ℕ) (b : ℕ). a < b) clocks
 
 -- an entry that is lent
 abbrev pub entry_of : Option (ℕ × Bor WriteRec) → Option (ℕ × WriteRec)

@@ -2,9 +2,11 @@
 ghost use Rattle.pr_inval.specs.declared.write_rec.WriteRec.{WriteRec};
 ghost use Rattle.pr_log.specs.Entries.{IsFirstEntry, IsLesserEntry, Rise, entry_of, without};
 ghost use Rattle.pr_log.specs.Known.{IsForgottenUpTo, at_clock, count_above};
+ghost use Rattle.std.specs.BTreeMap.{insert_entry};
+ghost use Rattle.std.specs.Map.{lookup};
 ghost use Rattle.std.specs.BTreeMap.Range.{IsLeBy, IsLtBy};
 ghost use Rattle.std.specs.Ordering.{is_eq, nat_cmp};
-ghost use Rattle.std.specs.Prelude.{◌≡◌, ◌≤◌, ◌<◌, ◌+◌, ℕ, [], None, IfNone, IfSome, IsSome, OnErr, OnOk, Some, IsTrue, cond, is_some, length, slice_index_or};
+ghost use Rattle.std.specs.Prelude.{◌≡◌, ◌≢◌, ◌≤◌, ◌<◌, ◌+◌, ◌∷◌, ◌++◌, ℕ, [], None, IfNone, IfSome, IsSome, OnErr, OnOk, Some, IsTrue, cond, drop, is_some, length, slice_index_or, zip};
 
 use pr_inval::WriteRec;
 use pr_stamps::NoMemory;
@@ -13,28 +15,27 @@ use std::collections::BTreeMap;
 use std::marker::Model;
 use std::ops::Bound;
 
-type Entry = (u64, WriteRec);
-
 type Map = BTreeMap<u64, WriteRec>;
 
-// Writes with their clocks. Those that came in the order of their clocks, as nearly all do, stand in a list that is
-// searched from its end, where streams ask, and the others in a map.
+// Writes with their clocks. Those that came in the order of their clocks, as nearly all do, stand in a list beside
+// their clocks, which are searched from their end, where streams ask, and the others in a map.
 #[derive(Drop)]
 pub struct ByClock {
-    in_order: Vec<Entry>,
+    clocks: Vec<u64>,
+    writes: Vec<WriteRec>,
     late: Map,
 }
 
 impl Model for ByClock {
-    ghost use Rattle.std.specs.Prelude.{◌++◌, List, ℕ};
+    ghost use Rattle.std.specs.Prelude.{◌≡◌, ◌++◌, List, ℕ, length, zip};
     ghost use Rattle.pr_inval.specs.declared.write_rec.WriteRec.{WriteRec};
     ghost use Rattle.pr_log.specs.Entries.{Rise};
 
     ghost Value = { List (ℕ × WriteRec) };
 
-    ghost view = { λ b. b.in_order.items ++ b.late.entries };
+    ghost view = { λ b. zip b.clocks.items b.writes.items ++ b.late.entries };
 
-    ghost invariant = { λ b. Rise b.in_order.items };
+    ghost invariant = { λ b. Rise b.clocks.items × (length b.clocks.items ≡ length b.writes.items) };
 }
 
 impl ByClock {
@@ -42,7 +43,8 @@ impl ByClock {
         ensures { result ≡ [] }
     {
         ByClock {
-            in_order: Vec::new(alloc),
+            clocks: Vec::new(alloc),
+            writes: Vec::new(alloc),
             late: BTreeMap::new(alloc),
         }
     }
@@ -56,10 +58,10 @@ impl ByClock {
         ensures back { OnOk result (without clock self.new ≡ self.old) }
         ensures err { OnErr result (self.new ≡ self.old) }
     {
-        if is_past(&self.in_order, clock) {
-            self.in_order.push((clock, *write))?;
+        if is_past(&self.clocks, clock) {
+            push_both(&mut self.clocks, clock, &mut self.writes, write)?;
         } else {
-            self.late.insert(clock, *write)?;
+            put_late(&mut self.late, clock, write)?;
         }
         Ok(())
     }
@@ -68,7 +70,7 @@ impl ByClock {
     pub fn remove(&mut self, clock: u64)
         ensures { self.new ≡ without clock self.old }
     {
-        self.in_order.retain(|(kept, _)| *kept != clock);
+        take_out(&mut self.clocks, &mut self.writes, clock);
         self.late.retain(|kept, _| *kept != clock);
     }
 
@@ -76,7 +78,7 @@ impl ByClock {
     pub fn has(&self, clock: u64) -> bool
         ensures { result ≡ is_some (at_clock self.now clock) }
     {
-        has_in_order(&self.in_order, clock) || self.late.contains_key(&clock)
+        place_of(&self.clocks, clock).is_some() || self.late.contains_key(&clock)
     }
 
     // The first write above the clock with its clock, in time logarithmic in the writes above it and in the late ones.
@@ -85,14 +87,14 @@ impl ByClock {
         ensures { IsFirstEntry self.now clock (entry_of result) }
     {
         lesser(
-            first_in_order(&self.in_order, clock),
+            first_in_order(&self.clocks, &self.writes, clock),
             first_late(&self.late, clock),
         )
     }
 
     // At most so many writes are above the clock, in logarithmic time.
     pub fn most_above(&self, clock: u64) -> usize {
-        let above = self.in_order.len() - up_to(&self.in_order, clock);
+        let above = self.clocks.len() - up_to(&self.clocks, clock);
         above.saturating_add(self.late.len())
     }
 
@@ -100,65 +102,137 @@ impl ByClock {
     pub fn forget(&mut self, clock: u64)
         ensures { IsForgottenUpTo clock self.old self.new }
     {
-        self.in_order.retain(|(kept, _)| *kept > clock);
+        let count = up_to(&self.clocks, clock);
+        drop_front(&mut self.clocks, count);
+        drop_front(&mut self.writes, count);
         self.late.retain(|kept, _| *kept > clock);
     }
 }
 
-// Whether the clock is above that of the last write.
-fn is_past(entries: &[Entry], clock: u64) -> bool
-    requires { Rise entries.now }
-    ensures { IsTrue result → (k : ℕ) (d : ℕ × WriteRec) → k < length entries.now → (slice_index_or entries.now k d).0 < clock }
+// Adds the clock and the item, or neither, in amortised constant time.
+fn push_both<T: Copy + Drop>(
+    clocks: &mut Vec<u64>,
+    clock: u64,
+    items: &mut Vec<T>,
+    item: &T,
+) -> Result<(), NoMemory>
+    ensures clocks { OnOk result (clocks.new.items ≡ clocks.old.items ++ clock ∷ []) }
+    ensures items { OnOk result (items.new.items ≡ items.old.items ++ item.now ∷ []) }
+    ensures err { OnErr result ((clocks.new.items ≡ clocks.old.items) × (items.new.items ≡ items.old.items)) }
 {
-    if entries.is_empty() {
+    items.reserve(1)?;
+    clocks.push(clock)?;
+    items.push_reserved(*item);
+    Ok(())
+}
+
+// Puts the item at the clock, or nothing, in logarithmic time.
+fn put_late<T: Copy + Drop>(
+    late: &mut BTreeMap<u64, T>,
+    clock: u64,
+    item: &T,
+) -> Result<(), NoMemory>
+    ensures ok { OnOk result (late.new.entries ≡ insert_entry nat_cmp late.old.entries clock item.now) }
+    ensures at { OnOk result ((c : ℕ) → lookup (λ k. is_eq (nat_cmp c k)) late.new.entries ≡ cond (is_eq (nat_cmp clock c)) (Some item.now) (lookup (λ k. is_eq (nat_cmp c k)) late.old.entries)) }
+    ensures err { OnErr result (late.new.entries ≡ late.old.entries) }
+{
+    late.insert(clock, *item)?;
+    Ok(())
+}
+
+// Takes out the clock with its write, in time linear in those behind them.
+fn take_out(clocks: &mut Vec<u64>, writes: &mut Vec<WriteRec>, clock: u64)
+    requires order { Rise clocks.old.items }
+    requires pairs { length clocks.old.items ≡ length writes.old.items }
+    ensures order { Rise clocks.new.items }
+    ensures pairs { length clocks.new.items ≡ length writes.new.items }
+    ensures out { zip clocks.new.items writes.new.items ≡ without clock (zip clocks.old.items writes.old.items) }
+{
+    let Some(at) = place_of(clocks, clock) else {
+        return;
+    };
+    clocks.remove(at);
+    writes.remove(at);
+}
+
+// Takes so many items off the front, in time linear in the items, and none in constant time.
+fn drop_front<T: Copy + Drop>(items: &mut Vec<T>, count: usize)
+    requires { count ≤ length items.old.items }
+    ensures { items.new.items ≡ drop count items.old.items }
+{
+    if count == 0 {
+        return;
+    }
+    let left = items.len() - count;
+    items.copy_within(count.., 0);
+    items.truncate(left);
+}
+
+// Whether the clock is above the last one.
+fn is_past(clocks: &[u64], clock: u64) -> bool
+    requires { Rise clocks.now }
+    ensures { IsTrue result → (k : ℕ) (d : ℕ) → k < length clocks.now → slice_index_or clocks.now k d < clock }
+{
+    if clocks.is_empty() {
         return true;
     }
-    entries[entries.len() - 1].0 < clock
+    clocks[clocks.len() - 1] < clock
 }
 
 // The first entry above the clock.
-fn first_in_order(entries: &[Entry], clock: u64) -> Option<(u64, &WriteRec)>
-    requires { Rise entries.now }
-    ensures { IsFirstEntry entries.now clock (entry_of result) }
+fn first_in_order<'a>(
+    clocks: &[u64],
+    writes: &'a [WriteRec],
+    clock: u64,
+) -> Option<(u64, &'a WriteRec)>
+    requires order { Rise clocks.now }
+    requires pairs { length clocks.now ≡ length writes.now }
+    ensures { IsFirstEntry (zip clocks.now writes.now) clock (entry_of result) }
 {
-    let at = up_to(entries, clock);
-    if at == entries.len() {
+    let at = up_to(clocks, clock);
+    if at == clocks.len() {
         return None;
     }
-    let entry = &entries[at];
-    Some((entry.0, &entry.1))
+    Some((clocks[at], &writes[at]))
 }
 
-fn has_in_order(entries: &[Entry], clock: u64) -> bool
-    requires { Rise entries.now }
-    ensures { result ≡ is_some (at_clock entries.now clock) }
+// The place of the clock.
+fn place_of(clocks: &[u64], clock: u64) -> Option<usize>
+    requires { Rise clocks.now }
+    ensures within { IfSome result (λ at. at < length clocks.now) }
+    ensures found { IfSome result (λ at. (d : ℕ) → slice_index_or clocks.now at d ≡ clock) }
+    ensures none { IfNone result ((k : ℕ) (d : ℕ) → k < length clocks.now → slice_index_or clocks.now k d ≢ clock) }
 {
-    let upto = up_to(entries, clock);
-    upto > 0 && entries[upto - 1].0 == clock
+    let last = up_to(clocks, clock).checked_sub(1)?;
+    if clocks[last] == clock {
+        Some(last)
+    } else {
+        None
+    }
 }
 
-// How many of the entries are at clocks up to this one, in time logarithmic in those above it.
-fn up_to(entries: &[Entry], clock: u64) -> usize
-    requires { Rise entries.now }
-    ensures most { result ≤ length entries.now }
-    ensures within { (k : ℕ) (d : ℕ × WriteRec) → k < result → (slice_index_or entries.now k d).0 ≤ clock }
-    ensures above { (k : ℕ) (d : ℕ × WriteRec) → result ≤ k → k < length entries.now → clock < (slice_index_or entries.now k d).0 }
+// How many of the clocks are at most this one, in time logarithmic in those above it.
+fn up_to(clocks: &[u64], clock: u64) -> usize
+    requires { Rise clocks.now }
+    ensures most { result ≤ length clocks.now }
+    ensures within { (k : ℕ) (d : ℕ) → k < result → slice_index_or clocks.now k d ≤ clock }
+    ensures above { (k : ℕ) (d : ℕ) → result ≤ k → k < length clocks.now → clock < slice_index_or clocks.now k d }
 {
-    let start = before(entries, clock);
-    start + entries[start..].partition_point(|(kept, _)| *kept <= clock)
+    let start = before(clocks, clock);
+    start + clocks[start..].partition_point(|kept| *kept <= clock)
 }
 
-// A place before which all entries are at clocks up to this one, found from the end by steps that double.
-fn before(entries: &[Entry], clock: u64) -> usize
-    requires { Rise entries.now }
-    ensures most { result ≤ length entries.now }
-    ensures within { (k : ℕ) (d : ℕ × WriteRec) → k < result → (slice_index_or entries.now k d).0 ≤ clock }
+// A place before which all clocks are at most this one, found from the end by steps that double.
+fn before(clocks: &[u64], clock: u64) -> usize
+    requires { Rise clocks.now }
+    ensures most { result ≤ length clocks.now }
+    ensures within { (k : ℕ) (d : ℕ) → k < result → slice_index_or clocks.now k d ≤ clock }
 {
-    let len = entries.len();
+    let len = clocks.len();
     let mut back: usize = 1;
     while back < len {
         let at = len - back;
-        if entries[at].0 <= clock {
+        if clocks[at] <= clock {
             return at;
         }
         back = back.saturating_mul(2);

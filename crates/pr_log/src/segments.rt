@@ -121,16 +121,16 @@ fn put_off(
     ensures others { OnOk result ((o : List ℕ) (c : ℕ) → IsName o → (c < lo) ⊎ (hi < c) → is_lit_at sets.new.entries o c ≡ is_lit_at sets.old.entries o c) }
 {
     let Some(set) = sets.remove(&lo) else {
-        return Ok(());
+        unreachable!();
     };
     let left = set.intersect(alloc, target)?;
-    begin(sets, lo, left)?;
+    begin_unless_same(sets, lo, left)?;
     sets.insert(hi + 1, set)?;
     Ok(())
 }
 
 // The set begins at the clock, unless the one before it has the same names.
-fn begin(sets: &mut Map, clock: u64, set: NameSet) -> Result<(), NoMemory>
+fn begin_unless_same(sets: &mut Map, clock: u64, set: NameSet) -> Result<(), NoMemory>
     requires some { 1 ≤ clock }
     requires none { begins_at sets.old.entries clock ≡ None }
     ensures begins { OnOk result (BeginsOrStands (begins_at sets.new.entries) clock set) }

@@ -23,6 +23,45 @@ struct Nodes {
     count: usize,
 }
 
+impl Nodes {
+    // Lists the next node too, if it has a head.
+    fn put(&mut self, heads: &Heads, node: u32)
+        requires node { node < 32 }
+        requires listed { AreListed heads.now self.old.at self.old.count node }
+        ensures { AreListed heads.now self.new.at self.new.count (node + 1) }
+    {
+        if heads[node as usize].is_some() {
+            self.at[self.count] = node;
+            self.count += 1;
+        }
+    }
+
+    // Lists the node no longer, if it has no head: the last that is listed comes in its place.
+    fn take_out(&mut self, heads: &Heads, node: u32)
+        requires node { node < 32 }
+        requires listed { AreListed heads.now self.old.at self.old.count 32 }
+        ensures { AreListed heads.now self.new.at self.new.count 32 }
+    {
+        if heads[node as usize].is_some() {
+            return;
+        }
+        if let Some(place) = self.place_of(node) {
+            self.count -= 1;
+            self.at[place] = self.at[self.count];
+        }
+    }
+
+    // Where the node is listed.
+    fn place_of(&self, node: u32) -> Option<usize>
+        requires { self.now.count ≤ 32 }
+        ensures { IfSome result (λ k. (k < self.now.count) × (node_at self.now.at k ≡ node)) }
+    {
+        self.at[..self.count]
+            .iter()
+            .position(|listed| *listed == node)
+    }
+}
+
 // The least write by stamp that is to one of the names and past the position. The nodes' writes are looked at in the
 // order of stamps, so that a write is looked at only if it comes before the answer or is the first of its node. To look at
 // one takes time linear in the nodes that have one left. Behind `first` looks at writes to other names, and behind twice
@@ -52,7 +91,7 @@ pub fn next_write<L: Ledger>(
         ask = ask_after(looks, ask);
         let node = write.stamp.node();
         heads[node as usize] = index.next(node, write.stamp.clock(), steps);
-        take_out(&mut nodes, &heads, node);
+        nodes.take_out(&heads, node);
     }
     None
 }
@@ -87,49 +126,9 @@ fn heads<'a, L: Ledger>(index: &'a Index, pos: &Vector, steps: &mut Steps<L>) ->
     };
     for n in 0..NODES {
         heads[n as usize] = index.next(n, pos.at(n), steps);
-        put(&mut nodes, &heads, n);
+        nodes.put(&heads, n);
     }
     (heads, nodes)
-}
-
-// Lists the next node too, if it has a head.
-fn put(nodes: &mut Nodes, heads: &Heads, node: u32)
-    requires node { node < 32 }
-    requires listed { AreListed heads.now nodes.old.at nodes.old.count node }
-    ensures { AreListed heads.now nodes.new.at nodes.new.count (node + 1) }
-{
-    if heads[node as usize].is_some() {
-        nodes.at[nodes.count] = node;
-        nodes.count += 1;
-    }
-}
-
-// Lists the node no longer, if it has no head: the last that is listed comes in its place.
-fn take_out(nodes: &mut Nodes, heads: &Heads, node: u32)
-    requires node { node < 32 }
-    requires listed { AreListed heads.now nodes.old.at nodes.old.count 32 }
-    ensures { AreListed heads.now nodes.new.at nodes.new.count 32 }
-{
-    if heads[node as usize].is_some() {
-        return;
-    }
-    if let Some(place) = place_of(nodes, node) {
-        nodes.count -= 1;
-        nodes.at[place] = nodes.at[nodes.count];
-    }
-}
-
-// Where the node is listed.
-fn place_of(nodes: &Nodes, node: u32) -> Option<usize>
-    requires { nodes.now.count ≤ 32 }
-    ensures { IfSome result (λ k. (k < nodes.now.count) × (node_at nodes.now.at k ≡ node)) }
-{
-    for place in 0..nodes.count {
-        if nodes.at[place] == node {
-            return Some(place);
-        }
-    }
-    None
 }
 
 // The least of the heads by stamp.
