@@ -30,7 +30,8 @@ pub struct Withheld {
 }
 
 // Sends the invalidation for these names from a position that the vector is past, as the session's next message. The
-// message is made where it is answered, since each move of one copies hundreds of bytes.
+// message is made where it is answered, and in calls of their own, since each move of one copies hundreds of bytes.
+#[inline(never)]
 pub fn ahead(
     alloc: Global,
     log: &Log,
@@ -87,6 +88,7 @@ fn is_nothing(found: &Withheld) -> bool
     }
 }
 
+#[inline(never)]
 fn imprecise(
     alloc: Global,
     found: &Withheld,
@@ -117,6 +119,7 @@ fn imprecise(
     }))
 }
 
+#[inline(never)]
 fn precise(
     from: &Vector,
     to: &Vector,

@@ -2,18 +2,20 @@
 ghost use Rattle.pr_inval.specs.declared.node_fault.NodeFault.TheVariants as faults;
 ghost use Rattle.pr_node.specs.Calls.{IsHalted};
 ghost use Rattle.pr_story.specs.Lawful.{last_time};
-ghost use Rattle.pr_story.specs.declared.event.Event.TheVariants.{Behind, Gapped};
-ghost use Rattle.std.specs.Prelude.{◌≡◌, ◌≤◌, ◌<◌, ◌+◌, ◌++◌, ◌∷◌, [], Err, true, false, IfErr, IfOk, OnOk, max, reverse};
+ghost use Rattle.pr_story.specs.declared.event.Event.TheVariants.{Accepted, Behind, Gapped, Sent, Stale};
+ghost use Rattle.pr_story.specs.Turns.{event_of};
+ghost use Rattle.std.specs.Prelude.{◌≡◌, ◌≤◌, ◌<◌, ◌+◌, ◌++◌, ◌∷◌, [], Err, true, false, IfErr, IfOk, OnErr, OnOk, max, reverse};
 
-use pr_inval::{Msg, NodeFault};
-use pr_stamps::MAX;
+use pr_inval::{Msg, NodeFault, Step};
+use pr_stamps::{MAX, NoMemory};
 use pr_story::{Entry, Event, Journal};
 use pr_vectors::Vector;
 use std::alloc::Global;
 use std::marker::Model;
 
 // A node's journal. From where a call begins to where its entry is made the node counts as spent, so that a refusal on
-// the way leaves it spent.
+// the way leaves it spent. Events of many bytes are made in calls of their own, so that no other call clears room for
+// them.
 #[derive(Drop)]
 pub struct Diary {
     journal: Journal,
@@ -116,8 +118,66 @@ impl Diary {
         self.spent = false;
     }
 
-    // Makes the entry that a message was not taken, since what comes before it is missing. It stands apart, as `behind`
-    // does, so that a call that has no such event makes no room for one.
+    // Makes the entry of a stream's turn, with a copy of the message. A refusal leaves the diary.
+    pub fn turned(
+        &mut self,
+        alloc: Global,
+        time: u64,
+        caller: u32,
+        stream: u32,
+        step: &Step,
+    ) -> Result<(), NoMemory>
+        requires room { 0 < self.old.entries.room }
+        requires early { time ≤ 4611686018427387903 }
+        ensures items { OnOk result (self.new.entries.items ≡ self.old.entries.items ++ (record { time = time; caller = caller; event = event_of stream step.now }) ∷ []) }
+        ensures spent { OnOk result (self.new.spent ≡ false) }
+        ensures err { OnErr result (self.new ≡ self.old) }
+    {
+        match step {
+            Step::Sent(msg) => {
+                let msg = msg.copy(alloc)?;
+                self.sent(time, caller, msg);
+            }
+            Step::Idle => self.finish(time, caller, Event::Idle { stream }),
+            Step::Stale { cut } => self.stale(time, caller, stream, cut),
+        }
+        Ok(())
+    }
+
+    // Makes the entry that a message was sent.
+    #[inline(never)]
+    pub fn sent(&mut self, time: u64, caller: u32, msg: Msg)
+        requires room { 0 < self.old.entries.room }
+        requires early { time ≤ 4611686018427387903 }
+        ensures items { self.new.entries.items ≡ self.old.entries.items ++ (record { time = time; caller = caller; event = Sent msg }) ∷ [] }
+        ensures spent { self.new.spent ≡ false }
+    {
+        self.finish(time, caller, Event::Sent { msg });
+    }
+
+    // Makes the entry that a stream wants a checkpoint.
+    #[inline(never)]
+    fn stale(&mut self, time: u64, caller: u32, stream: u32, cut: &Vector)
+        requires room { 0 < self.old.entries.room }
+        requires early { time ≤ 4611686018427387903 }
+        ensures items { self.new.entries.items ≡ self.old.entries.items ++ (record { time = time; caller = caller; event = Stale stream cut.now }) ∷ [] }
+        ensures spent { self.new.spent ≡ false }
+    {
+        self.finish(time, caller, Event::Stale { stream, cut: *cut });
+    }
+
+    // Makes the entry that a message was taken.
+    #[inline(never)]
+    pub fn accepted(&mut self, time: u64, caller: u32, msg: Msg, at: &Vector)
+        requires room { 0 < self.old.entries.room }
+        requires early { time ≤ 4611686018427387903 }
+        ensures items { self.new.entries.items ≡ self.old.entries.items ++ (record { time = time; caller = caller; event = Accepted msg at.now }) ∷ [] }
+        ensures spent { self.new.spent ≡ false }
+    {
+        self.finish(time, caller, Event::Accepted { msg, at: *at });
+    }
+
+    // Makes the entry that a message was not taken, since what comes before it is missing.
     #[inline(never)]
     pub fn gapped(&mut self, time: u64, caller: u32, msg: Msg, has: &Vector)
         requires room { 0 < self.old.entries.room }

@@ -25,7 +25,7 @@ use crate::rebuilding::{cut, drop_body, fresh, rebuilt};
 use crate::standing::precise;
 use crate::starting::{snapshot, start};
 use crate::taking::{gap, take};
-use crate::turning::{event_of, message, next_step, note};
+use crate::turning::{message, next_step, note};
 use crate::writing::{keep_write, next_write};
 use crate::{Answer, Done, Scan, Seen, Stores};
 use pr_inval::{Msg, NodeFault, Session, Step, Taken};
@@ -222,8 +222,7 @@ impl Node {
         }
         take(self.alloc, &mut self.stores, &msg.kind)?;
         let at = self.stores.log.vector();
-        let event = Event::Accepted { msg, at };
-        self.diary.finish(time, caller, event);
+        self.diary.accepted(time, caller, msg, &at);
         Ok(Taken::Accepted { time })
     }
 
@@ -385,9 +384,9 @@ impl Node {
         session.room()?;
         let entries = self.diary.journal().entries();
         let step = next_step(self.alloc, &self.stores, entries, session, scan, time)?;
-        let event = event_of(self.alloc, &step, session.stream())?;
+        let stream = session.stream();
+        self.diary.turned(self.alloc, time, caller, stream, &step)?;
         note(session, &step, time);
-        self.diary.finish(time, caller, event);
         Ok(step)
     }
 
@@ -407,8 +406,7 @@ impl Node {
         let msg = message(session, kind, time);
         let sent = msg.copy(self.alloc)?;
         session.sent(&self.stores.gaps.vector(), time);
-        let event = Event::Sent { msg: sent };
-        self.diary.finish(time, caller, event);
+        self.diary.sent(time, caller, sent);
         Ok(msg)
     }
 

@@ -15,7 +15,7 @@ use crate::waiting_bodies::next_body;
 use crate::{Scan, Stores};
 use pr_inval::{Kind, Msg, Session, Step};
 use pr_stamps::NoMemory;
-use pr_story::{Entry, Event};
+use pr_story::Entry;
 use std::alloc::Global;
 
 // What the source of a stream with this session does next, where its node has made these entries.
@@ -81,20 +81,6 @@ pub fn message(session: &Session, kind: Kind, time: u64) -> Msg
         stream: session.stream(),
         number: session.number() + 1,
         kind,
-    }
-}
-
-// The event of a stream's turn, with a copy of the message.
-pub fn event_of(alloc: Global, step: &Step, stream: u32) -> Result<Event, NoMemory>
-    ensures { IfOk result (λ event. event ≡ event_of stream step.now) }
-{
-    match step {
-        Step::Sent(msg) => {
-            let msg = msg.copy(alloc)?;
-            Ok(Event::Sent { msg })
-        }
-        Step::Idle => Ok(Event::Idle { stream }),
-        Step::Stale { cut } => Ok(Event::Stale { stream, cut: *cut }),
     }
 }
 

@@ -16,7 +16,7 @@ use Rattle.pr_story.specs.Commands.{IsCheckpoint}
 
 pub invariant_of-self-2 : goal.invariant_of-self-2
 invariant_of-self-2 c =
-    stands c.self.inside.id _ _ _ _ _ _ c.self.invariant.0 c.in_ok-time.ensures.items c.finish.ensures.items
+    stands c.self.inside.id _ _ _ _ _ _ c.self.invariant.0 c.in_ok-time.ensures.items c.sent-2.ensures.items
     (quiet_tied c.self.inside.id _ _ _ tt (c.self.invariant.1 c.in_ok-time.ensures.worked))
 
 pub returns-clause-ok : goal.returns-clause-ok
@@ -30,7 +30,7 @@ returns-clause-ok c needs =
     let snap : IsSnapshot sets n j c.sub.result.now msg.kind =
     subst (λ (k : Kind). IsSnapshot sets n j c.sub.result.now k) (sym c.message-msg.ensures.kind) (c.in_ok-kind.ensures.snapshot n j tied) in
     let ends = snapshot_ends sets n j c.sub.result.now msg.kind snap in
-    rw (← c.self.view_is) (adds n _ _ _ _ _ _ _ _ (λ x. a.standing) needs _ c.time.result _ c.in_ok-time.ensures.items c.finish.ensures.items refl c.finish.ensures.spent
+    rw (← c.self.view_is) (adds n _ _ _ _ _ _ _ _ (λ x. a.standing) needs _ c.time.result _ c.in_ok-time.ensures.items c.sent-2.ensures.items refl c.sent-2.ensures.spent
     (subst (λ (m : Msg). IsReady (λ x. a.standing) needs n j sets (record { time = c.in_ok-time.time; caller = c.args.caller; event = Sent m })) (sym c.in_ok-sent.ensures)
     (checkpoint_ready needs n j sets a.standing c.sub.result.now c.in_ok-time.time c.args.caller msg c.message-msg.ensures.range c.message-msg.ensures.number c.message-msg.ensures.time c.sub.ensures.value snap))
     c.ranges.caller.fits refl c.time.ensures.value c.in_ok-time.ensures.time (

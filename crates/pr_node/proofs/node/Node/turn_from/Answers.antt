@@ -4,6 +4,7 @@ use Rattle.pr_story.specs.declared.entry.Entry.{Entry}
 use Rattle.pr_story.specs.Turns.{event_of}
 use Rattle.pr_stamps.specs.Kept.{Kept}
 use Rattle.pr_node.specs.Scanning.{IsScanOf}
+use Rattle.pr_node.specs.Stored.{Noted}
 use Rattle.pr_node.specs.Sending.{IsNextStep}
 use Rattle.pr_node.specs.Ties.{IsTied}
 use Rattle.pr_node.proofs.Adding.{stands, adds}
@@ -16,8 +17,8 @@ use Rattle.pr_node.proofs.node.Node.turn_from.Goals as goal
 
 pub invariant_of-self-2 : goal.invariant_of-self-2
 invariant_of-self-2 c =
-    stands c.self.inside.id _ _ _ _ _ _ c.self.invariant.0 c.in_ok-time.ensures.items c.finish.ensures.items
-    (quiet_tied c.self.inside.id _ _ _ (turn_quiet c.stream.result c.in_ok-step.step c.in_ok-event.event c.in_ok-event.ensures) (c.self.invariant.1 c.in_ok-time.ensures.worked))
+    stands c.self.inside.id _ _ _ _ _ _ c.self.invariant.0 c.in_ok-time.ensures.items c.in_ok-turned.ensures.items
+    (quiet_tied c.self.inside.id _ _ _ (turn_quiet c.stream-stream.result c.in_ok-step.step _ refl) (c.self.invariant.1 c.in_ok-time.ensures.worked))
 
 pub returns-clause-ok : goal.returns-clause-ok
 returns-clause-ok c needs =
@@ -26,14 +27,14 @@ returns-clause-ok c needs =
     let tied = c.self.invariant.1 c.in_ok-time.ensures.worked in
     let next : IsNextStep c.self.inside.id j a c.in_ok-time.time c.in_ok-step.step =
     step_at c.self.inside.id j a (means c.room.new.self) c.in_ok-time.time c.in_ok-step.step c.room.ensures.same (subst (λ (es : List Entry). IsTied c.self.inside.id (reverse es) c.self.inside.stores → IsNextStep c.self.inside.id (reverse es) (means c.room.new.self) c.in_ok-time.time c.in_ok-step.step) (c.entries-entries.ensures ∙ ap (λ (x : Kept Entry). x.items) c.journal.ensures ∙ c.in_ok-time.ensures.items) (c.in_ok-step.ensures.next c.self.inside.id) tied) in
-    let is : c.in_ok-event.event ≡ event_of a.stream c.in_ok-step.step = c.in_ok-event.ensures ∙ ap (λ (k : ℕ). event_of k c.in_ok-step.step) (c.stream.ensures ∙ c.room.ensures.same.stream) in
-    let fits : a.stream < 2 ^ 32 = subst (λ (k : ℕ). k < 2 ^ 32) (c.stream.ensures ∙ c.room.ensures.same.stream) (search rules) in
-    rw (← c.self.view_is) (adds _ _ _ _ _ _ _ _ _ (λ x. a.standing) needs _ c.time.result _ c.in_ok-time.ensures.items c.finish.ensures.items refl c.finish.ensures.spent
-    (turn_ready needs c.self.inside.id j _ a _ _ c.in_ok-step.step c.in_ok-event.event is fits c.in_ok-step.ensures.range next)
-    c.ranges.caller.fits refl (c.time.ensures.value ∙ turn_heard a.standing a.stream c.in_ok-step.step c.in_ok-event.event is) c.in_ok-time.ensures.time (
-      turn_is c.self.inside.id j a _ _ c.in_ok-step.step c.in_ok-event.event is next,
-      has_gone_on a (means c.room.new.self) (means c.note.new.session) _ _ c.in_ok-event.event _ c.room.ensures.same c.requires.attached
-          (c.in_ok-event.ensures ∙ ap (λ (k : ℕ). event_of k c.in_ok-step.step) c.stream.ensures) (c.note.ensures c.args.caller),
+    let is : event_of c.stream-stream.result c.in_ok-step.step ≡ event_of a.stream c.in_ok-step.step = ap (λ (k : ℕ). event_of k c.in_ok-step.step) (c.stream-stream.ensures ∙ c.room.ensures.same.stream) in
+    let fits : a.stream < 2 ^ 32 = subst (λ (k : ℕ). k < 2 ^ 32) (c.stream-stream.ensures ∙ c.room.ensures.same.stream) (search rules) in
+    rw (← c.self.view_is) (adds _ _ _ _ _ _ _ _ _ (λ x. a.standing) needs _ c.time.result _ c.in_ok-time.ensures.items c.in_ok-turned.ensures.items refl c.in_ok-turned.ensures.spent
+    (turn_ready needs c.self.inside.id j _ a _ _ c.in_ok-step.step _ is fits c.in_ok-step.ensures.range next)
+    c.ranges.caller.fits refl (c.time.ensures.value ∙ turn_heard a.standing a.stream c.in_ok-step.step _ is) c.in_ok-time.ensures.time (
+      turn_is c.self.inside.id j a _ _ c.in_ok-step.step _ is next,
+      has_gone_on a (means c.room.new.self) (means c.note.new.session) _ _ _ _ c.room.ensures.same c.requires.attached
+          (ap (λ (k : ℕ). event_of k c.in_ok-step.step) c.stream-stream.ensures) (c.note.ensures c.args.caller),
     ))
 
 pub returns-clause-grammar : goal.returns-clause-grammar
@@ -53,17 +54,17 @@ returns-in_err-step-clause-scan c =
     (subst (λ (es : List Entry). IsTied c.self.inside.id (reverse es) c.self.inside.stores → IsScanOf c.next_step.new.scan (means c.room.new.self).standing (reverse es))
     (c.entries-entries.ensures ∙ ap (λ (x : Kept Entry). x.items) c.journal.ensures ∙ c.in_ok-time.ensures.items) (c.next_step.ensures.scan c.self.inside.id) tied)
 
-pub returns-in_err-event-clause-scan : goal.returns-in_err-event-clause-scan
-returns-in_err-event-clause-scan c =
+pub returns-in_err-turned-clause-scan : goal.returns-in_err-turned-clause-scan
+returns-in_err-turned-clause-scan c =
     let tied = c.self.invariant.1 c.in_ok-time.ensures.worked in
-    subst (λ (es : List Entry). IsScanOf c.next_step.new.scan (means c.room.new.self).standing (reverse es)) (sym c.in_ok-time.ensures.items)
+    subst (λ (es : List Entry). IsScanOf c.next_step.new.scan (means c.room.new.self).standing (reverse es)) (sym (ap (λ (d : Noted). d.entries.items) c.in_err-turned.ensures.err ∙ c.in_ok-time.ensures.items))
     (subst (λ (es : List Entry). IsTied c.self.inside.id (reverse es) c.self.inside.stores → IsScanOf c.next_step.new.scan (means c.room.new.self).standing (reverse es))
     (c.entries-entries.ensures ∙ ap (λ (x : Kept Entry). x.items) c.journal.ensures ∙ c.in_ok-time.ensures.items) (c.next_step.ensures.scan c.self.inside.id) tied)
 
 pub returns-clause-scan : goal.returns-clause-scan
 returns-clause-scan c =
     let tied = c.self.invariant.1 c.in_ok-time.ensures.worked in
-    scan_turned c.next_step.new.scan (means c.room.new.self) (means c.note.new.session) _ c.in_ok-step.step c.in_ok-time.time c.args.caller _ c.begin.new.self.entries.items _ (c.note.ensures c.args.caller) c.finish.ensures.items
+    scan_turned c.next_step.new.scan (means c.room.new.self) (means c.note.new.session) _ c.in_ok-step.step c.in_ok-time.time c.args.caller _ c.begin.new.self.entries.items _ (c.note.ensures c.args.caller) c.in_ok-turned.ensures.items
     (subst (λ (es : List Entry). IsScanOf c.next_step.new.scan (means c.room.new.self).standing (reverse es)) (sym c.in_ok-time.ensures.items)
     (subst (λ (es : List Entry). IsTied c.self.inside.id (reverse es) c.self.inside.stores → IsScanOf c.next_step.new.scan (means c.room.new.self).standing (reverse es))
     (c.entries-entries.ensures ∙ ap (λ (x : Kept Entry). x.items) c.journal.ensures ∙ c.in_ok-time.ensures.items) (c.next_step.ensures.scan c.self.inside.id) tied))
