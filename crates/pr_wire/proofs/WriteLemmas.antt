@@ -47,6 +47,19 @@ entry_stays v w n old all lt le so_far = ap (λ (ps : List Point). old ++ flat_m
 pub entries_end : (v w : List ℕ) (n : ℕ) (old all : List ℕ) → 32 ≤ n → old ++ flat_map entry_text (above v w n (32 - n)) ≡ all → old ≡ all
 entries_end v w n old all le so_far = sym (append-nil old) ∙ ap (λ (ps : List Point). old ++ flat_map entry_text ps) (sym (ended v w n le)) ∙ so_far
 
+pub one_less : (v w : List ℕ) (n left : ℕ) → n < 32 → clock_of v n < clock_of w n → left ≡ length (above v w n (32 - n)) → left - 1 ≡ length (above v w (n + 1) (32 - (n + 1)))
+one_less v w n left lt rise is = omega (arith, is, ap length (rising v w n lt rise))
+
+pub none_less : (v w : List ℕ) (n left : ℕ) → n < 32 → clock_of w n ≤ clock_of v n → left ≡ length (above v w n (32 - n)) → left ≡ length (above v w (n + 1) (32 - (n + 1)))
+none_less v w n left lt le is = is ∙ ap length (staying v w n lt le)
+
+-- none is left
+pub entries_done : (v w : List ℕ) (n left : ℕ) (old all : List ℕ) → left ≡ 0 → left ≡ length (above v w n (32 - n))
+    → old ++ flat_map entry_text (above v w n (32 - n)) ≡ all → old ≡ all
+entries_done v w n left old all none is so_far =
+    let nothing : above v w n (32 - n) ≡ [] = nil_from_length (above v w n (32 - n)) (sym is ∙ none) in
+    sym (append-nil old) ∙ ap (λ (ps : List Point). old ++ flat_map entry_text ps) (sym nothing) ∙ so_far
+
 -- a number and its rest by 2^64 have the same 8 bytes
 pub eight_mod : (n : ℕ) → eight (n % 2 ^ 64) ≡ eight n
 unfolding eight

@@ -1,5 +1,5 @@
 // The kinds of message.
-ghost use Rattle.pr_wire.specs.Reading.{Gives, body_at, checkpoint_at, content_at, imprecise_at, is_number, kind_at, message_at, precise_at, write_at};
+ghost use Rattle.pr_wire.specs.Reading.{Gives, body_at, checkpoint_at, imprecise_at, is_number, kind_at, message_at, precise_at, write_at};
 ghost use Rattle.std.specs.Prelude.{◌≡◌, List};
 
 use crate::fault::Fault;
@@ -21,19 +21,31 @@ fn is_number(number: u64) -> bool
 
 /// The message of these bytes, which are a frame of the format without its head of 9 bytes, in time linear in them. Bad
 /// says that they are the content of no message in the format.
-#[tactic(auto, unfolding(crate::specs::Reading::message_at))]
+#[tactic(auto, unfolding(crate::specs::Reading::message_at, crate::specs::Reading::content_at))]
 pub fn message(alloc: Global, format: Format, bytes: &[u8]) -> Result<Msg, Fault>
     ensures { Gives (λ x. x) result (message_at format bytes.now) }
 {
     let mut cursor = Cursor { rest: bytes };
-    let msg = cursor.content(alloc, format)?;
-    if cursor.rest.is_empty() {
-        Ok(msg)
-    } else {
-        Err(Fault::Bad)
+    let kind = cursor.byte()?;
+    let time = cursor.eight()?;
+    let stream = cursor.four()?;
+    let number = cursor.eight()?;
+    if !(is_number(time) && is_number(number)) {
+        return Err(Fault::Bad);
     }
+    let kind = cursor.kind(alloc, format, kind)?;
+    if !cursor.rest.is_empty() {
+        return Err(Fault::Bad);
+    }
+    Ok(Msg {
+        time,
+        stream,
+        number,
+        kind,
+    })
 }
 
+// Each kind is read in a call of its own, which makes it where it is answered.
 impl<'a> Cursor<'a> {
     #[tactic(auto, unfolding(crate::specs::Reading::write_at))]
     fn write(&mut self, format: Format) -> Result<WriteRec, Fault>
@@ -51,6 +63,7 @@ impl<'a> Cursor<'a> {
     }
 
     #[tactic(auto, unfolding(crate::specs::Reading::precise_at))]
+    #[inline(never)]
     fn precise(&mut self, format: Format) -> Result<Kind, Fault>
         ensures { Gives (λ x. (x, self.new.rest.now)) result (precise_at format self.old.rest.now) }
     {
@@ -65,6 +78,7 @@ impl<'a> Cursor<'a> {
     }
 
     #[tactic(auto, unfolding(crate::specs::Reading::imprecise_at))]
+    #[inline(never)]
     fn imprecise(&mut self, alloc: Global, format: Format) -> Result<Kind, Fault>
         ensures { Gives (λ x. (x, self.new.rest.now)) result (imprecise_at format self.old.rest.now) }
     {
@@ -75,6 +89,7 @@ impl<'a> Cursor<'a> {
     }
 
     #[tactic(auto, unfolding(crate::specs::Reading::checkpoint_at))]
+    #[inline(never)]
     fn checkpoint(&mut self, alloc: Global, format: Format) -> Result<Kind, Fault>
         ensures { Gives (λ x. (x, self.new.rest.now)) result (checkpoint_at format self.old.rest.now) }
     {
@@ -100,6 +115,7 @@ impl<'a> Cursor<'a> {
     }
 
     #[tactic(auto, unfolding(crate::specs::Reading::body_at))]
+    #[inline(never)]
     fn body(&mut self, alloc: Global) -> Result<Kind, Fault>
         ensures { Gives (λ x. (x, self.new.rest.now)) result (body_at self.old.rest.now) }
     {
@@ -125,25 +141,5 @@ impl<'a> Cursor<'a> {
             4 => self.body(alloc),
             _ => Err(Fault::Bad),
         }
-    }
-
-    #[tactic(auto, unfolding(crate::specs::Reading::content_at))]
-    fn content(&mut self, alloc: Global, format: Format) -> Result<Msg, Fault>
-        ensures { Gives (λ x. (x, self.new.rest.now)) result (content_at format self.old.rest.now) }
-    {
-        let kind = self.byte()?;
-        let time = self.eight()?;
-        let stream = self.four()?;
-        let number = self.eight()?;
-        if !(is_number(time) && is_number(number)) {
-            return Err(Fault::Bad);
-        }
-        let kind = self.kind(alloc, format, kind)?;
-        Ok(Msg {
-            time,
-            stream,
-            number,
-            kind,
-        })
     }
 }

@@ -20,16 +20,22 @@ fn count_above(from: &Vector, to: &Vector) -> u8
     count
 }
 
-// The entries of the nodes at which the second vector is above the first.
-fn put_entries(chunk: &mut Chunk, from: &Vector, to: &Vector)
-    requires { length chunk.old.items + 288 ≤ 704 }
+// The entries of the nodes at which the second vector is above the first, so many as there are, up to the last of them.
+fn put_entries(chunk: &mut Chunk, from: &Vector, to: &Vector, count: u8)
+    requires room { length chunk.old.items + 288 ≤ 704 }
+    requires count { count ≡ length (above from.now to.now 0 32) }
     ensures text { chunk.new.items ≡ chunk.old.items ++ flat_map entry_text (above from.now to.now 0 32) }
     ensures size { length chunk.new.items ≤ length chunk.old.items + 288 }
 {
+    let mut left = count;
     for n in 0..NODES {
+        if left == 0 {
+            return;
+        }
         if from.at(n) < to.at(n) {
             put_byte(chunk, n as u8);
             put_eight(chunk, to.at(n));
+            left -= 1;
         }
     }
 }
@@ -41,8 +47,9 @@ pub fn put_rise(chunk: &mut Chunk, from: &Vector, to: &Vector)
     ensures text { chunk.new.items ≡ chunk.old.items ++ rise_text from.now to.now }
     ensures size { length chunk.new.items ≤ length chunk.old.items + 289 }
 {
-    put_byte(chunk, count_above(from, to));
-    put_entries(chunk, from, to);
+    let count = count_above(from, to);
+    put_byte(chunk, count);
+    put_entries(chunk, from, to, count);
 }
 
 #[tactic(auto, unfolding(crate::specs::Spelling::vector_text))]

@@ -6,5 +6,6 @@ use Rattle.pr_wire.proofs.writing.vectors.put_entries.Given as goal
 abbrev pub invariant-loop-n : goal.invariant-loop-n
 invariant-loop-n l = record {
   all : l.chunk.items ++ flat_map entry_text (above l.from l.to l.n (32 - l.n)) ≡ l.fn.chunk.items ++ flat_map entry_text (above l.from l.to 0 32);
+  left : l.left ≡ length (above l.from l.to l.n (32 - l.n));
   size : length l.chunk.items ≤ length l.fn.chunk.items + 9 * l.n;
 }
