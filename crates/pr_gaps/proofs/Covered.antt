@@ -1,5 +1,5 @@
 -- Points that are told for one set, node by node.
-use Rattle.std.proofs.Common.{◌≡◌, ℕ, ◌≤◌, ◌<◌, ◌+◌, List, [], length, get_or, set, sym, ◌∙◌, ap, subst, arith, inl, inr, ◌≢◌}
+use Rattle.std.proofs.Common.{◌≡◌, ℕ, ◌≤◌, ◌<◌, ◌+◌, List, [], length, get_or, set, refl, sym, ◌∙◌, ap, subst, arith, inl, inr, ◌≢◌}
 use Rattle.std.specs.Prelude.{◌⊎◌, ◌↔◌}
 use Rattle.std.proofs.lemmas.List.{get_or_default, get_or-set_same, get_or-set_other}
 use Rattle.std.proofs.lemmas.Bool.Decides.{nat_tests}
@@ -37,6 +37,23 @@ covered_more items first n old new from to lo hi lo_is hi_is within old_is same 
       (sym (rest p.node (omega (arith, here))) ∙ ap (λ k. get_or items k []) here ∙ sym (old_is ∙ get_or_default items n old [] within))
       (lo_is ∙ ap (clock_of from) (sym here)) (hi_is ∙ ap (clock_of to) (sym here)) same
 ]
+
+-- one node more, of which there is no point between the vectors
+pub covered_same : (items first : List (List (ℕ × ℕ))) (n : ℕ) (from to : List ℕ) → clock_of to n ≤ clock_of from n → ((p : Point) → p.node < n → HasPoint items p ↔ (HasPoint first p ⊎ Between from to p)) → ((k : ℕ) → n ≤ k → get_or items k [] ≡ get_or first k []) → (p : Point) → p.node < n + 1 → HasPoint items p ↔ (HasPoint first p ⊎ Between from to p)
+covered_same items first n from to le done rest p lt = elim (below_or p.node n lt) [
+  | inl less ↦ done p less
+  | inr here ↦
+      let none : clock_of to p.node ≤ clock_of from p.node = subst (λ k. clock_of to k ≤ clock_of from k) (sym here) le in
+      node_covered items first from to p (get_or first p.node []) (get_or first p.node []) (clock_of from p.node) (clock_of to p.node) (rest p.node (omega (arith, here))) refl refl refl
+      (λ c. (λ has. inl has, λ either. elim either [ inl old ↦ old | inr new ↦ absurd (omega (arith, new.0, new.1, none)) ]))
+]
+
+-- the clocks above one, up to another, are those from the next one
+pub from_next : (now was : List (ℕ × ℕ)) (lo hi : ℕ) → ((c : ℕ) → HasClock now c ↔ (HasClock was c ⊎ ((lo + 1 ≤ c) × (c ≤ hi)))) → (c : ℕ) → HasClock now c ↔ (HasClock was c ⊎ ((lo < c) × (c ≤ hi)))
+from_next now was lo hi same c = (
+  (λ has. elim ((same c).0 has) [ inl old ↦ inl old | inr new ↦ inr (omega (arith, new.0), new.1) ]),
+  (λ either. (same c).1 (elim either [ inl old ↦ inl old | inr new ↦ inr (omega (arith, new.0), new.1) ])),
+)
 
 pub rest_more : (items first : List (List (ℕ × ℕ))) (n : ℕ) (new : List (ℕ × ℕ)) → ((k : ℕ) → n ≤ k → get_or items k [] ≡ get_or first k []) → (k : ℕ) → n + 1 ≤ k → get_or (set items n new) k [] ≡ get_or first k []
 rest_more items first n new rest k le =

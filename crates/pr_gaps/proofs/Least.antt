@@ -1,6 +1,6 @@
 -- The least point that is not told, node by node.
 use Rattle.std.proofs.Common.{◌≡◌, ℕ, ◌≤◌, ◌<◌, ◌+◌, List, get_or, Option, None, Some, refl, sym, ◌∙◌, ap, subst, arith, inl, inr, nat_eq, cond, Bool, true, false, [], zero, suc}
-use Rattle.std.specs.Prelude.{◌⊎◌, max, min, IsSome, IfSome}
+use Rattle.std.specs.Prelude.{◌⊎◌, max, min, IsSome, IfSome, is_some}
 use Rattle.std.proofs.lemmas.Bool.Decides.{nat_tests}
 use Rattle.pr_stamps.specs.Point.{Point, Before, IsStamp}
 use Rattle.pr_vectors.specs.Vector.{IsVector, Covers, clock_of, raised, zero_vector}
@@ -82,6 +82,12 @@ least_more T v n (Some a) (Some b) r (lt, covers, out, least) (node, one, most, 
         ]
       ],
     )
+
+-- the node has none
+pub least_same : (T : Point → Type 0) (v : List ℕ) (n : ℕ) (a b : Option Point) → is_some b ≡ false → IsLeastOutside T v n a → IsNodeOutside T v n b → IsLeastOutside T v (n + 1) a
+least_same T v n a (Some b) none least found = absurd (let bad : true ≡ false = none in cc)
+least_same T v n None None none least found = least_more T v n None None None least found refl
+least_same T v n (Some a) None none least found = least_more T v n (Some a) None (Some a) least found refl
 
 -- ---- one node
 

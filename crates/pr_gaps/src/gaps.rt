@@ -180,7 +180,9 @@ fn first_untold(row: &Row, own: u32, vector: &Vector) -> Option<Stamp>
     let mut least: Option<Stamp> = None;
     for n in 0..NODES {
         let found = untold(row, own, n, vector);
-        least = lesser(&least, &found);
+        if found.is_some() {
+            least = lesser(&least, &found);
+        }
     }
     least
 }

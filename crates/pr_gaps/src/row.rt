@@ -43,8 +43,11 @@ impl Row {
         ensures { OnOk result (IsRowCovered self.old self.new from.now to.now) }
     {
         for n in 0..NODES {
-            let clocks = &mut self.clocks[n as usize];
-            add_between(clocks, from.at(n), to.at(n))?;
+            let (lo, hi) = (from.at(n), to.at(n));
+            if lo < hi {
+                let clocks = &mut self.clocks[n as usize];
+                clocks.add(lo + 1, hi)?;
+            }
         }
         Ok(())
     }
@@ -57,15 +60,4 @@ impl Row {
     {
         self.clocks[node as usize].run()
     }
-}
-
-// The clocks above `from`, up to `to`, are in the set too.
-fn add_between(clocks: &mut Ranges, from: u64, to: u64) -> Result<(), NoMemory>
-    requires { to ≤ 4611686018427387903 }
-    ensures { OnOk result ((c : ℕ) → HasClock clocks.new c ↔ (HasClock clocks.old c ⊎ ((from < c) × (c ≤ to)))) }
-{
-    if from < to {
-        clocks.add(from + 1, to)?;
-    }
-    Ok(())
 }
