@@ -1,5 +1,5 @@
 -- What the log tells of the names and writes ahead of a position.
-use Rattle.std.proofs.Common.{◌≡◌, ℕ, ◌<◌, ◌≤◌, ◌⊎◌, inl, inr, List, max, min, refl, sym, ◌∙◌, ap, subst, arith}
+use Rattle.std.proofs.Common.{◌≡◌, ℕ, ◌<◌, ◌≤◌, ◌⊎◌, inl, inr, List, [], length, max, min, refl, sym, ◌∙◌, ap, subst, arith}
 use Rattle.std.specs.Prelude.{Bool, true, false, IsTrue, ◌↔◌, None, Some}
 use Rattle.pr_stamps.specs.Point.{Point}
 use Rattle.pr_names.specs.Name.{IsName}
@@ -18,7 +18,9 @@ use Rattle.pr_story.specs.History.{current_vector}
 use Rattle.pr_story.specs.Told.{IsDarkBetween}
 use Rattle.pr_story.specs.Sending.{IsAhead}
 use Rattle.pr_story.specs.Turns.{IsOmitted, IsWithheld, IsTarget, IsWriteToSend, IsNextWrite}
+use Rattle.pr_story.proofs.Points.{covered_node}
 use Rattle.pr_story.proofs.Targets.{target_met}
+use Rattle.pr_story.proofs.Withholding.{empty_of}
 use Rattle.pr_node.specs.declared.ahead.Withheld.{Withheld}
 use Rattle.pr_node.specs.Sending.{IsImpreciseOf}
 use Rattle.pr_node.specs.Ties.{IsLogOf}
@@ -34,6 +36,21 @@ above n j m pos f le p out c = elim (below_or_not p.node 32) [
 
 past : (v w : List ℕ) (p : Point) → Between v w p → Covers v p → ⊥
 past v w p b c = omega (arith, b.0, c.1)
+
+-- ---- no point between
+
+none_between : (from to : List ℕ) (p : Point) → length to ≡ 32 → Le to from → Between from to p → ⊥
+none_between from to p len le b =
+    let lt : p.node < 32 = covered_node to p len (omega (arith, b.0), b.1) in
+    omega (arith, le p.node lt, b.0, b.1)
+
+pub none_dark : (n : ℕ) (j : List Entry) (from to : List ℕ) → length to ≡ 32 → Le to from → IsSetOf [] (IsDarkBetween n j from to)
+none_dark n j from to len le = empty_of (IsDarkBetween n j from to) (λ o name d. none_between from to d.0 len le d.1)
+
+pub none_omitted : (j : List Entry) (names : List Span) (from to : List ℕ) → length to ≡ 32 → Le to from → IsSetOf [] (IsOmitted j names from to)
+none_omitted j names from to len le = empty_of (IsOmitted j names from to) (λ o name d. none_between from to d.1.0.stamp len le d.1.3)
+
+-- ---- what the log tells
 
 set_mapped : (set : List Span) (P Q : List ℕ → Type 0) → IsSetOf set P → ((o : List ℕ) → IsName o → P o ↔ Q o) → IsSetOf set Q
 set_mapped set P Q s each = record {

@@ -47,11 +47,11 @@ pub fn ahead(
     let vector = log.vector();
     let Some(write) = log.next_write(position, names) else {
         let to = position.join(&vector);
-        let found = found_between(log, names, position, &to)?;
+        let found = found_between(alloc, log, names, position, &to)?;
         return imprecise(alloc, &found, names, position, &to, session, time);
     };
     let before = position.join(&vector.below(&write.stamp));
-    let found = found_between(log, names, position, &before)?;
+    let found = found_between(alloc, log, names, position, &before)?;
     if is_nothing(&found) {
         let to = position.join(&vector.stamp_cut(&write.stamp));
         return precise(position, &to, &write, session, time);
@@ -59,7 +59,9 @@ pub fn ahead(
     imprecise(alloc, &found, names, position, &before, session, time)
 }
 
+// What is withheld between two vectors. Where no point lies between them, as mostly, that is nothing.
 fn found_between(
+    alloc: Global,
     log: &Log,
     names: &NameSet,
     from: &Vector,
@@ -71,6 +73,13 @@ fn found_between(
     ensures omitted { IfOk result (λ w. (n : ℕ) (j : List Entry) → IsLogOf n j log.now → IsSetOf w.omitted (IsOmitted j names.now from.now to.now)) }
     ensures apart { IfOk result (λ w. ¬ Meet (has w.omitted) (has names.now)) }
 {
+    if to.le(from) {
+        let _ = to.at(0);
+        return Ok(Withheld {
+            dark: NameSet::empty(alloc),
+            omitted: NameSet::empty(alloc),
+        });
+    }
     let dark = log.dark_between(from, to)?;
     let omitted = log.omitted_between(from, to, names)?;
     Ok(Withheld { dark, omitted })

@@ -1,5 +1,11 @@
-use Rattle.pr_node.proofs.Sending.{dark_set, omitted_set}
+use Rattle.pr_node.proofs.Sending.{dark_set, none_dark, none_omitted, omitted_set}
 use Rattle.pr_node.proofs.ahead.found_between.Goals as goal
+
+pub returns-then-le-clause-dark : goal.returns-then-le-clause-dark
+returns-then-le-clause-dark c n j f = rw c.empty.ensures (none_dark n j c.args.from.now c.args.to.now c.at.ensures.range.nodes (c.le.ensures.0 c.if-le.true))
+
+pub returns-then-le-clause-omitted : goal.returns-then-le-clause-omitted
+returns-then-le-clause-omitted c n j f = rw c.empty-then-le.ensures (none_omitted j c.args.names.now c.args.from.now c.args.to.now c.at.ensures.range.nodes (c.le.ensures.0 c.if-le.true))
 
 pub returns-clause-dark : goal.returns-clause-dark
 returns-clause-dark c n j f = dark_set n j _ _ _ _ f c.requires.cut c.in_ok-dark.ensures
