@@ -76,6 +76,7 @@ impl Feed {
 
     /// The next message, taken off the rest, in time linear in its frame; or why there is none, in constant time
     /// where the frame is not in. A refusal leaves the feed, and so do More and Bad: after Bad each call answers it.
+    #[inline(never)]
     pub fn next(&mut self) -> Result<Next, NoMemory>
         ensures answer { IfOk result (HasAnswered self.old self.new) }
         ensures err { OnErr result (self.new ≡ self.old) }

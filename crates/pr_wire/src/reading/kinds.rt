@@ -22,6 +22,7 @@ fn is_number(number: u64) -> bool
 /// The message of these bytes, which are a frame of the format without its head of 9 bytes, in time linear in them. Bad
 /// says that they are the content of no message in the format.
 #[tactic(auto, unfolding(crate::specs::Reading::message_at, crate::specs::Reading::content_at))]
+#[inline(never)]
 pub fn message(alloc: Global, format: Format, bytes: &[u8]) -> Result<Msg, Fault>
     ensures { Gives (λ x. x) result (message_at format bytes.now) }
 {
