@@ -5,11 +5,15 @@ use crate::failed::Failed;
 use crate::known::{Knowing, Known};
 use crate::work::Call;
 use std::alloc::Global;
+use std::mem;
 
-/// Makes so many calls of a node that knows the names, and says how many entries were made with those that told it.
+/// Makes so many calls of a node that knows the names, and says how many entries were made with those that told it. Its
+/// memory is not given back, since that is no call's work.
 pub fn calls(alloc: Global, call: Call, ask: &Ask) -> Result<usize, Failed> {
     let mut known = Known::new(alloc, knowing(call), ask)?;
-    repeat(&mut known, call, ask)
+    let count = repeat(&mut known, call, ask)?;
+    mem::forget(known);
+    Ok(count)
 }
 
 // What the node is told beforehand.

@@ -1,17 +1,16 @@
 // Messages over bytes.
 ghost use Rattle.pr_inval.specs.Messages.{IsMessage};
-ghost use Rattle.std.specs.Prelude.{IfOk};
 
 use crate::failed::Failed;
 use pr_inval::{Bytes, Msg};
-use pr_wire::{Feed, Next, encode};
+use pr_wire::{Feed, encode};
 use std::alloc::Global;
 
 /// Bytes that messages are written to, and the feed that reads them.
 #[derive(Drop)]
 pub struct Coding {
     bytes: Bytes,
-    feed: Feed,
+    pub feed: Feed,
 }
 
 impl Coding {
@@ -22,17 +21,13 @@ impl Coding {
         }
     }
 
-    /// The message that is read of the bytes of this one.
-    pub fn carry(&mut self, msg: &Msg) -> Result<Msg, Failed>
+    /// Gives the feed the bytes of a message.
+    pub fn put(&mut self, msg: &Msg) -> Result<(), Failed>
         requires { IsMessage msg.now }
-        ensures { IfOk result IsMessage }
     {
         self.bytes.truncate(0);
         encode(msg, &mut self.bytes)?;
         self.feed.push(self.bytes.as_slice())?;
-        match self.feed.next()? {
-            Next::Message(msg) => Ok(msg),
-            Next::More | Next::Bad { .. } => Err(Failed),
-        }
+        Ok(())
     }
 }

@@ -5,11 +5,12 @@ use crate::coding::Coding;
 use crate::failed::Failed;
 use crate::source::Source;
 use crate::starting::{CALLER, CLIENT, node, session};
-use pr_inval::{Msg, Taken};
+use pr_inval::{Msg, Step, Taken};
 use pr_names::Name;
 use pr_node::Node;
 use pr_sets::NameSet;
 use pr_vectors::Vector;
+use pr_wire::Next;
 use std::alloc::Global;
 
 /// A node that writes, one that takes what a stream from the first sends, and bytes between them.
@@ -40,24 +41,27 @@ impl Pair {
     /// A turn, and an accept of what it sends.
     pub fn pass(&mut self) -> Result<(), Failed> {
         match self.source.turn()? {
-            Some(msg) => self.take(msg),
-            None => Ok(()),
+            Step::Sent(msg) => self.take(msg),
+            Step::Idle | Step::Stale { .. } => Ok(()),
         }
     }
 
     /// The same, over bytes.
     pub fn pass_coded(&mut self) -> Result<(), Failed> {
         match self.source.turn()? {
-            Some(msg) => self.take_coded(&msg),
-            None => Ok(()),
+            Step::Sent(msg) => self.take_coded(&msg),
+            Step::Idle | Step::Stale { .. } => Ok(()),
         }
     }
 
     fn take_coded(&mut self, msg: &Msg) -> Result<(), Failed>
         requires { IsMessage msg.now }
     {
-        let msg = self.coding.carry(msg)?;
-        self.take(msg)
+        self.coding.put(msg)?;
+        match self.coding.feed.next()? {
+            Next::Message(msg) => self.take(msg),
+            Next::More | Next::Bad { .. } => Err(Failed),
+        }
     }
 
     fn take(&mut self, msg: Msg) -> Result<(), Failed>

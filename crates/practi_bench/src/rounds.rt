@@ -7,11 +7,15 @@ use crate::naming::{name, set};
 use crate::pair::Pair;
 use crate::work::Round;
 use std::alloc::Global;
+use std::mem;
 
-/// Makes so many rounds of two nodes, and says how many entries were made.
+/// Makes so many rounds of two nodes, and says how many entries were made. Their memory is not given back, since that is
+/// no round's work.
 pub fn rounds(alloc: Global, round: Round, ask: &Ask) -> Result<usize, Failed> {
     let mut pair = made_for(alloc, round)?;
-    repeat(&mut pair, round, ask)
+    let count = repeat(&mut pair, round, ask)?;
+    mem::forget(pair);
+    Ok(count)
 }
 
 fn made_for(alloc: Global, round: Round) -> Result<Pair, Failed> {

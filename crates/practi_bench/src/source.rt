@@ -1,11 +1,11 @@
 // A node, and a stream that it is the source of.
-ghost use Rattle.pr_inval.specs.Messages.{IsMessage};
 ghost use Rattle.pr_inval.specs.Standing as Standing;
-ghost use Rattle.std.specs.Prelude.{IfOk, IfSome, IsTrue};
+ghost use Rattle.pr_node.specs.Grammar.{IsStepSpelled};
+ghost use Rattle.std.specs.Prelude.{IfOk, IsTrue};
 
 use crate::failed::Failed;
 use crate::starting::{CALLER, CLIENT};
-use pr_inval::{Msg, Session, Step};
+use pr_inval::{NodeFault, Session, Step};
 use pr_names::Name;
 use pr_node::{Node, Scan};
 use pr_stamps::MAX;
@@ -54,17 +54,12 @@ impl Source {
         Ok(())
     }
 
-    /// What a turn of the stream sends.
-    pub fn turn(&mut self) -> Result<Option<Msg>, Failed>
-        ensures { IfOk result (λ sent. IfSome sent IsMessage) }
+    /// A turn of the stream. What it answers is handed on as it is, so that nothing but the node's call is measured.
+    pub fn turn(&mut self) -> Result<Step, NodeFault>
+        ensures { IfOk result IsStepSpelled }
     {
-        match self
-            .node
-            .turn_from(CALLER, &mut self.session, &mut self.scan)?
-        {
-            Step::Sent(msg) => Ok(Some(msg)),
-            Step::Idle | Step::Stale { .. } => Ok(None),
-        }
+        self.node
+            .turn_from(CALLER, &mut self.session, &mut self.scan)
     }
 
     /// The stream's destination made an event at this time.

@@ -12,9 +12,10 @@ use pr_node::Node;
 use pr_sets::NameSet;
 use pr_vectors::Vector;
 use std::alloc::Global;
+use std::mem;
 
 /// Makes so many calls for a stream at a node that knows the names, and says how many entries were made with those that
-/// told it.
+/// told it. Its memory is not given back, since that is no call's work.
 pub fn stream_calls(alloc: Global, call: StreamCall, ask: &Ask) -> Result<usize, Failed> {
     let node = Known::new(alloc, Knowing::Writes, ask)?.into_node();
     match call {
@@ -28,7 +29,9 @@ pub fn stream_calls(alloc: Global, call: StreamCall, ask: &Ask) -> Result<usize,
 // Turns of a stream of all names that begins here.
 fn turns(alloc: Global, size: u32, node: Node, start: &Vector) -> Result<usize, Failed> {
     let mut source = source(alloc, node, start)?;
-    repeat_turns(&mut source, size)
+    let count = repeat_turns(&mut source, size)?;
+    mem::forget(source);
+    Ok(count)
 }
 
 fn idle_turns(alloc: Global, size: u32, node: Node) -> Result<usize, Failed> {
@@ -51,7 +54,9 @@ fn repeat_turns(source: &mut Source, size: u32) -> Result<usize, Failed> {
 
 fn attaches(alloc: Global, size: u32, mut node: Node) -> Result<usize, Failed> {
     let mut session = session(alloc, set(alloc, b"*")?, false)?;
-    repeat_attaches(&mut node, &mut session, size)
+    let count = repeat_attaches(&mut node, &mut session, size)?;
+    mem::forget(node);
+    Ok(count)
 }
 
 fn repeat_attaches(node: &mut Node, session: &mut Session, size: u32) -> Result<usize, Failed> {
@@ -64,7 +69,9 @@ fn repeat_attaches(node: &mut Node, session: &mut Session, size: u32) -> Result<
 fn checkpoints(alloc: Global, size: u32, mut node: Node) -> Result<usize, Failed> {
     let mut session = session(alloc, one_name(alloc)?, false)?;
     session.begin(&Vector::zero());
-    repeat_checkpoints(&mut node, &mut session, size)
+    let count = repeat_checkpoints(&mut node, &mut session, size)?;
+    mem::forget(node);
+    Ok(count)
 }
 
 fn one_name(alloc: Global) -> Result<NameSet, Failed> {
