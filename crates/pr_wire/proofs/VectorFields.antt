@@ -1,5 +1,5 @@
 -- Vectors, and what one has above another.
-use Rattle.std.proofs.Common.{◌≡◌, ◌≢◌, ℕ, zero, suc, ◌+◌, ◌-◌, ◌<◌, ◌≤◌, Bool, true, false, cond, List, [], ◌∷◌, ◌++◌, length, Option, Some, refl, sym, ap, subst, ◌∙◌, append_assoc, arith, inl, inr}
+use Rattle.std.proofs.Common.{◌≡◌, ◌≢◌, ℕ, zero, suc, ◌+◌, ◌-◌, ◌<◌, ◌≤◌, Bool, true, false, cond, List, [], ◌∷◌, ◌++◌, length, Option, Some, None, refl, sym, ap, subst, ◌∙◌, append_assoc, arith, inl, inr}
 use Rattle.std.specs.Prelude.{nat_lt, nat_le, nat_eq, ◌&&◌, max, flat_map}
 use Rattle.std.proofs.lemmas.Bool.{and_parts, and_from, cases_lt, eq-eqb, ne_eqb, leb-true, le-leb, ltb-true, lt-ltb}
 use Rattle.std.proofs.lemmas.List.{nil_from_length}
@@ -90,6 +90,43 @@ unfolding entry_at entry_text
 entry_again next from p rest h =
     let tests : (nat_le next p.node && nat_lt (clock_of from p.node) p.clock) ≡ true = and_from _ _ (le-leb _ _ h.later) (lt-ltb _ _ h.rises) in
     rw (eight_field.again p.clock rest (omega (arith, h.stamp.most)), is_stamp p h.stamp, tests) refl
+
+-- an entry is one above another vector that has the same clocks from the node on
+bind_same : {A B : Type 0} (o : Option A) (f g : A → Option B) → ((x : A) → o ≡ Some x → f x ≡ g x) → (o >>= f) ≡ (o >>= g)
+bind_same None f g same = refl
+bind_same (Some x) f g same = same x refl
+
+and_same : (a b c : Bool) → (a ≡ true → b ≡ c) → (a && b) ≡ (a && c)
+and_same true b c same = same refl
+and_same false b c same = refl
+
+pub same_entry : (next : ℕ) (v w bytes : List ℕ) → ((n : ℕ) → next ≤ n → n < 32 → clock_of v n ≡ clock_of w n) → entry_at next v bytes ≡ entry_at next w bytes
+unfolding entry_at
+same_entry next v w bytes later =
+    bind_same (byte_at bytes) (λ node. eight_at node.1 >>= λ clock. stamp_of clock.0 node.0 >>= λ stamp. given (nat_le next stamp.node && nat_lt (clock_of v stamp.node) stamp.clock) (stamp, clock.1)) (λ node. eight_at node.1 >>= λ clock. stamp_of clock.0 node.0 >>= λ stamp. given (nat_le next stamp.node && nat_lt (clock_of w stamp.node) stamp.clock) (stamp, clock.1)) (λ node _.
+        bind_same (eight_at node.1) (λ clock. stamp_of clock.0 node.0 >>= λ stamp. given (nat_le next stamp.node && nat_lt (clock_of v stamp.node) stamp.clock) (stamp, clock.1)) (λ clock. stamp_of clock.0 node.0 >>= λ stamp. given (nat_le next stamp.node && nat_lt (clock_of w stamp.node) stamp.clock) (stamp, clock.1)) (λ clock _.
+            bind_same (stamp_of clock.0 node.0) (λ stamp. given (nat_le next stamp.node && nat_lt (clock_of v stamp.node) stamp.clock) (stamp, clock.1)) (λ stamp. given (nat_le next stamp.node && nat_lt (clock_of w stamp.node) stamp.clock) (stamp, clock.1)) (λ stamp is.
+                let known = (stamp_is clock.0 node.0 stamp is).1.known_node in
+                let made : Point × List ℕ = (stamp, clock.1) in
+                ap (λ (test : Bool). given test made) (and_same (nat_le next stamp.node) (nat_lt (clock_of v stamp.node) stamp.clock) (nat_lt (clock_of w stamp.node) stamp.clock) (λ e. ap (λ (k : ℕ). nat_lt k stamp.clock) (later stamp.node (leb-true _ _ e) known))))))
+
+-- a vector that was raised at a node is as it was from the next one on
+pub later_same : (next : ℕ) (from to : List ℕ) (p : Point) → next ≤ p.node → ((n : ℕ) → next ≤ n → n < 32 → clock_of to n ≡ clock_of from n)
+    → (n : ℕ) → p.node + 1 ≤ n → n < 32 → clock_of (raised to p) n ≡ clock_of from n
+later_same next from to p later same n behind lt = raised_other to p n lt (λ e. omega arith) ∙ same n (omega arith) lt
+
+-- the node of an entry is not before the next one
+pub entry_later : (next : ℕ) (from bytes : List ℕ) (p : Point) (rest : List ℕ) → entry_at next from bytes ≡ Some (p, rest) → next ≤ p.node
+unfolding entry_at
+entry_later next from bytes p rest e =
+    let y : Point × List ℕ = (p, rest) in
+    let a = bind_some (byte_at bytes) (λ node. eight_at node.1 >>= λ clock. stamp_of clock.0 node.0 >>= λ stamp. given (nat_le next stamp.node && nat_lt (clock_of from stamp.node) stamp.clock) (stamp, clock.1)) y e in
+    let b = bind_some (eight_at a.0.1) (λ clock. stamp_of clock.0 a.0.0 >>= λ stamp. given (nat_le next stamp.node && nat_lt (clock_of from stamp.node) stamp.clock) (stamp, clock.1)) y a.2 in
+    let c = bind_some (stamp_of b.0.0 a.0.0) (λ stamp. given (nat_le next stamp.node && nat_lt (clock_of from stamp.node) stamp.clock) (stamp, b.0.1)) y b.2 in
+    let made : Point × List ℕ = (c.0, b.0.1) in
+    let g = given_some (nat_le next c.0.node && nat_lt (clock_of from c.0.node) c.0.clock) made y c.2 in
+    let tests = and_parts (nat_le next c.0.node) (nat_lt (clock_of from c.0.node) c.0.clock) g.0 in
+    subst (λ (q : Point × List ℕ). next ≤ q.0.node) g.1 (leb-true _ _ tests.0)
 
 -- ---- entries
 

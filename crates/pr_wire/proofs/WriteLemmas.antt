@@ -2,7 +2,8 @@
 use Rattle.std.proofs.Common.{◌≡◌, ℕ, suc, ◌+◌, ◌-◌, ◌^◌, ◌<◌, ◌≤◌, take, drop, List, [], ◌∷◌, ◌++◌, length, refl, sym, ap, ◌∙◌, append_assoc, arith}
 use Rattle.std.specs.Prelude.{flat_map, ◌%◌}
 use Rattle.std.specs.Int.{byte_at}
-use Rattle.std.proofs.lemmas.List.{append-nil, drop-drop, length-append, length-drop, length-take, nil_from_length, take-append-drop, take-append-le, take_all}
+use Rattle.std.specs.List.{refill}
+use Rattle.std.proofs.lemmas.List.{append-nil, drop-drop, length-append, length-drop, length-take, nil_from_length, take-append-drop, take-append-le, take_all, take_at, drop_at, drop-append-le}
 use Rattle.std.proofs.Math.Seq.{drop-length}
 use Rattle.pr_stamps.specs.Point.{Point}
 use Rattle.pr_vectors.specs.Vector.{clock_of}
@@ -74,14 +75,31 @@ eight_mod n =
     let h : byte_at 0 (n % 2 ^ 64) ≡ byte_at 0 n = omega arith in
     rw (a, b, c, d, e, f, g, h) refl
 
-pub frame_begins : (m : Msg) (len : ℕ) (head fields chunk left : List ℕ) → content Two m ≡ fields ++ left → len ≡ (length left % 2 ^ 64 + length fields) % 2 ^ 64 → head ≡ 2 ∷ eight len → chunk ≡ head ++ fields → chunk ++ left ≡ spelling Two m
+take_one : (n : ℕ) (xs : List ℕ) → take 1 (take (suc n) xs) ≡ take 1 xs
+take_one n [] = refl
+take_one n (x ∷ xs) = refl
+
+-- 8 bytes behind the first one are written
+pub room_filled : (len : ℕ) (items lent text : List ℕ) → 9 ≤ length items → lent ≡ items → text ≡ eight len
+    → refill (length items) items (take 1 lent ++ (text ++ drop 8 (drop 1 lent))) ≡ take 1 items ++ (eight len ++ drop 9 items)
+unfolding eight
+room_filled len items lent text room is is_text =
+    let all : List ℕ = take 1 items ++ (eight len ++ drop 9 items) in
+    let size : length all ≡ length items = omega (arith, room, length-append (take 1 items) (eight len ++ drop 9 items), length-append (eight len) (drop 9 items), length-take 1 items, length-drop 9 items) in
+    rw (is, is_text, drop-drop 8 1 items) (take_at all (drop (length all) items) (length items) size)
+
+-- the length of the content is written into the room that its head has
+pub frame_begins : (m : Msg) (len : ℕ) (head filled chunk left : List ℕ) → take 1 head ≡ 2 ∷ [] → length head ≡ 9 → length head ≤ length filled → head ++ content Two m ≡ filled ++ left → len ≡ (length left % 2 ^ 64 + (length filled - 9)) % 2 ^ 64
+    → chunk ≡ take 1 filled ++ (eight len ++ drop 9 filled) → chunk ++ left ≡ spelling Two m
 unfolding spelling
-frame_begins m len head fields chunk left is_content is_len is_head is_chunk =
-    let whole : len ≡ length (content Two m) % 2 ^ 64 = omega (arith, is_len, ap length is_content, length-append fields left) in
-    ap (λ (t : List ℕ). t ++ left) is_chunk
-    ∙ append_assoc head fields left
-    ∙ ap (λ (t : List ℕ). head ++ t) (sym is_content)
-    ∙ ap (λ (t : List ℕ). t ++ content Two m) (is_head ∙ ap (λ (t : List ℕ). 2 ∷ t) (ap eight whole ∙ eight_mod (length (content Two m))))
+frame_begins m len head filled chunk left is_format is_head grows is_text is_len is_chunk =
+    let within : 9 ≤ length filled = omega (arith, is_head, grows) in
+    let front : take 9 filled ≡ head = sym (take-append-le 9 filled left within) ∙ ap (λ (t : List ℕ). take 9 t) (sym is_text) ∙ take_at head (content Two m) 9 is_head in
+    let back : drop 9 filled ++ left ≡ content Two m = sym (drop-append-le 9 filled left within) ∙ ap (λ (t : List ℕ). drop 9 t) (sym is_text) ∙ drop_at head (content Two m) 9 is_head in
+    let format : take 1 filled ≡ 2 ∷ [] = sym (take_one 8 filled) ∙ ap (λ (t : List ℕ). take 1 t) front ∙ is_format in
+    let whole : len ≡ length (content Two m) % 2 ^ 64 = omega (arith, is_len, ap length back, length-append (drop 9 filled) left, length-drop 9 filled) in
+    ap (λ (t : List ℕ). t ++ left) (is_chunk ∙ ap (λ (t : List ℕ). t ++ (eight len ++ drop 9 filled)) format)
+    ∙ ap (λ (t : List ℕ). 2 ∷ t) (append_assoc (eight len) (drop 9 filled) left ∙ ap (λ (t : List ℕ). eight len ++ t) back ∙ ap (λ (t : List ℕ). t ++ content Two m) (ap eight whole ∙ eight_mod (length (content Two m))))
 
 -- a part of a chunk is given
 pub part_given : (filled n at : ℕ) (old new chunk left all : List ℕ) → take (filled + n) new ≡ take filled old ++ take n (drop at chunk)

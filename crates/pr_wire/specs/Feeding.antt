@@ -1,5 +1,5 @@
 -- What a feed stands for, and what it gives.
-use Rattle.std.specs.Prelude.{◌≡◌, ◌≤◌, ◌+◌, ℕ, List, [], ◌∷◌, ◌++◌, length, min}
+use Rattle.std.specs.Prelude.{◌≡◌, ◌≤◌, ◌<◌, ◌+◌, ℕ, List, [], ◌∷◌, ◌++◌, length, min, slice_index}
 use Rattle.pr_inval.specs.declared.msg.Msg.{Msg}
 use Rattle.pr_wire.specs.declared.format.Format.{Format}
 use Rattle.pr_wire.specs.declared.format.Format.TheVariants.{Two}
@@ -8,6 +8,9 @@ use Rattle.pr_wire.specs.declared.next.Next.TheVariants.{Message, More, Bad}
 use Rattle.pr_wire.specs.Messages.{HasSpelling}
 use Rattle.pr_wire.specs.Spelling.{content, spelling}
 use Rattle.pr_wire.specs.Frames.{IsBad, IsPartial}
+
+abbrev pub AreBytes : List ℕ → Type 0
+AreBytes bytes = (i : ℕ) → slice_index bytes i < 256
 
 -- the bytes that were pushed and not given, and how many were given, up to the greatest count
 pub record Fed : Type 0 where

@@ -4,8 +4,6 @@ use Rattle.pr_inval.specs.declared.msg.Msg.{Msg}
 use Rattle.pr_wire.specs.declared.format.Format.{Format}
 use Rattle.pr_wire.specs.declared.frame.Head.{Head}
 use Rattle.pr_wire.specs.declared.frame.Head.TheVariants as heads
-use Rattle.pr_wire.specs.declared.frame.Frame.{Frame}
-use Rattle.pr_wire.specs.declared.frame.Frame.TheVariants as frames
 use Rattle.pr_wire.specs.Frames.{HasNoFormat, IsBad, IsPartial, IsTooLong, said_length}
 use Rattle.pr_wire.specs.Messages.{HasSpelling}
 use Rattle.pr_wire.specs.Spelling.{content, format_byte, spelling}
@@ -29,8 +27,3 @@ pub record IsSpelled (limit : ℕ) (bytes : List ℕ) (m : Msg) (len : ℕ) (f :
   pub front : bytes ≡ spelling f m ++ drop len bytes
   pub size : len ≡ length (spelling f m)
   pub all : len ≤ length bytes
-
-abbrev pub FrameIs : ℕ → List ℕ → Frame → Type 0
-FrameIs limit bytes frames.Partial = IsPartial limit bytes
-FrameIs limit bytes frames.Bad = IsBad limit bytes
-FrameIs limit bytes (frames.Message msg len) = (f : Format) × IsSpelled limit bytes msg len f

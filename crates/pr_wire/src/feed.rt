@@ -1,11 +1,13 @@
 // A stream of frames, as it comes.
 ghost use Rattle.pr_inval.specs.declared.msg.Msg.{Msg};
-ghost use Rattle.pr_wire.specs.Feeding.{HasAnswered, HoldsJust, new_feed, pushed};
+ghost use Rattle.pr_wire.specs.Feeding.{AreBytes, HasAnswered, HoldsJust, new_feed, pushed};
 ghost use Rattle.std.specs.Prelude.{◌≡◌, ◌≤◌, ◌<◌, ◌^◌, ◌↔◌, [], length, drop, IfOk, IsTrue, OnErr, OnOk};
 
-use crate::frame::{Frame, read_frame};
+use crate::fault::Fault;
+use crate::frame::{Head, read_head};
 use crate::law::{messages_are_never_bad, no_frame_begins_another};
 use crate::next::Next;
+use crate::reading::message;
 use pr_inval::Msg;
 use pr_stamps::NoMemory;
 use std::alloc::Global;
@@ -83,14 +85,21 @@ impl Feed {
         ensures fits { length self.old.rest < 2 ^ 64 }
     {
         let _held = self.bytes.len();
-        match read_frame(self.alloc, self.limit, &self.bytes[self.start..])? {
-            Frame::Partial => Ok(Next::More),
-            Frame::Bad => Ok(Next::Bad { at: self.given }),
-            Frame::Message { msg, len } => {
+        let bytes = &self.bytes[self.start..];
+        known_bytes(bytes);
+        let (format, len) = match read_head(self.limit, bytes) {
+            Head::Partial => return Ok(Next::More),
+            Head::Refused => return Ok(Next::Bad { at: self.given }),
+            Head::Whole { format, len } => (format, len),
+        };
+        match message(self.alloc, format, &bytes[9..len]) {
+            Ok(msg) => {
                 self.start += len;
                 self.given = self.given.saturating_add(len as u64);
                 Ok(Next::Message(msg))
             }
+            Err(Fault::Bad) => Ok(Next::Bad { at: self.given }),
+            Err(Fault::NoMemory) => Err(NoMemory),
         }
     }
 
@@ -117,6 +126,13 @@ impl Feed {
             self.start = 0;
         }
     }
+}
+
+// Each is below 256.
+fn known_bytes(bytes: &[u8])
+    ensures { AreBytes bytes.now }
+{
+    let _ = bytes.len();
 }
 
 // Takes so many bytes off the front.

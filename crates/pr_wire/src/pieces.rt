@@ -7,9 +7,12 @@ ghost use Rattle.pr_wire.specs.declared.format.Format.{Format};
 ghost use Rattle.std.specs.Prelude.{◌≡◌, ◌≤◌, ◌<◌, ◌+◌, ◌-◌, ◌%◌, ◌^◌, [], ◌∷◌, ◌++◌, length, min, take, drop, true, false, OnErr, OnOk};
 
 use crate::width::known_width;
-use crate::writing::{Chunk, Left, open, put, put_byte, put_eight, step};
+use crate::writing::{Chunk, Left, open, put_byte, put_eight, step};
 use pr_inval::{Bytes, Msg};
 use pr_stamps::NoMemory;
+
+// The format and the length of the content.
+const HEAD: usize = 9;
 
 /// The frame of a message in format 2 (docs/WIRE.md), given piece by piece. Its rest is at first the whole frame. No
 /// call takes memory, and none makes more of the frame than a few fields.
@@ -29,12 +32,11 @@ impl<'a> Pieces<'a> {
         ensures width { IsInWidth msg.now }
     {
         known_width(msg);
-        let mut fields = Chunk::new();
-        let left = open(msg, &mut fields);
-        let len = len_of(left).wrapping_add(fields.len() as u64);
         let mut chunk = Chunk::new();
-        put_head(&mut chunk, len);
-        put(&mut chunk, fields.as_slice());
+        put_head(&mut chunk);
+        let left = open(msg, &mut chunk);
+        let len = len_of(left).wrapping_add(chunk.len() as u64 - HEAD as u64);
+        set_length(&mut chunk, len);
         Pieces { chunk, at: 0, left }
     }
 
@@ -93,20 +95,31 @@ impl<'a> Pieces<'a> {
     }
 }
 
-// The format, and the length of the content.
-fn put_head(chunk: &mut Chunk, len: u64)
+// The format, and room for the length of the content.
+fn put_head(chunk: &mut Chunk)
     requires { chunk.old.items ≡ [] }
-    ensures text { chunk.new.items ≡ 2 ∷ eight len }
+    ensures format { take 1 chunk.new.items ≡ 2 ∷ [] }
     ensures size { length chunk.new.items ≡ 9 }
 {
     put_byte(chunk, 2);
-    put_eight(chunk, len);
+    put_eight(chunk, 0);
+}
+
+// Writes the length of the content into its room.
+fn set_length(chunk: &mut Chunk, len: u64)
+    requires { 9 ≤ length chunk.old.items }
+    ensures { chunk.new.items ≡ take 1 chunk.old.items ++ (eight len ++ drop 9 chunk.old.items) }
+{
+    chunk.as_mut_slice()[1..9].copy_from_slice(&len.to_be_bytes());
 }
 
 // How many bytes are left, as 8 bytes hold it.
 fn len_of(left: Left) -> u64
     ensures { result ≡ length (left_text left.entry) % 2 ^ 64 }
 {
+    if let Left::Nothing = left {
+        return 0;
+    }
     let mut chunk = Chunk::new();
     let mut rest = step(left, &mut chunk);
     let mut len = chunk.len() as u64;

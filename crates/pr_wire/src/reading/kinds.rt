@@ -10,6 +10,7 @@ use crate::reading::stamps::is_between;
 use crate::reading::vectors::is_le;
 use pr_inval::{Kind, Msg, WriteRec};
 use pr_stamps::{MAX, Seq};
+use pr_vectors::Vector;
 use std::alloc::Global;
 
 // Whether it can be a time or a message number.
@@ -63,13 +64,15 @@ impl<'a> Cursor<'a> {
         })
     }
 
-    #[tactic(auto, unfolding(crate::specs::Reading::precise_at))]
+    #[tactic(auto, unfolding(crate::specs::Reading::precise_at, crate::specs::Reading::vector_at))]
     #[inline(never)]
     fn precise(&mut self, format: Format) -> Result<Kind, Fault>
         ensures { Gives (λ x. (x, self.new.rest.now)) result (precise_at format self.old.rest.now) }
     {
-        let from = self.vector()?;
-        let to = self.end(format, &from)?;
+        let mut from = Vector::zero();
+        self.rise(&mut from)?;
+        let mut to = from;
+        self.end(format, &mut to)?;
         let write = self.write(format)?;
         if is_between(&from, &to, &write.stamp) {
             Ok(Kind::Precise { from, to, write })
@@ -78,13 +81,15 @@ impl<'a> Cursor<'a> {
         }
     }
 
-    #[tactic(auto, unfolding(crate::specs::Reading::imprecise_at))]
+    #[tactic(auto, unfolding(crate::specs::Reading::imprecise_at, crate::specs::Reading::vector_at))]
     #[inline(never)]
     fn imprecise(&mut self, alloc: Global, format: Format) -> Result<Kind, Fault>
         ensures { Gives (λ x. (x, self.new.rest.now)) result (imprecise_at format self.old.rest.now) }
     {
-        let from = self.vector()?;
-        let to = self.end(format, &from)?;
+        let mut from = Vector::zero();
+        self.rise(&mut from)?;
+        let mut to = from;
+        self.end(format, &mut to)?;
         let target = self.target(alloc)?;
         Ok(Kind::Imprecise { from, to, target })
     }

@@ -38,27 +38,26 @@ impl<'a> Cursor<'a> {
         }
     }
 
-    // So many entries, which raise the vector.
-    fn entries(&mut self, count: u8, from: &Vector) -> Result<Vector, Fault>
-        ensures { Gives (λ x. (x, self.new.rest.now)) result (entries_at count 0 from.now from.now self.old.rest.now) }
+    // Raises the vector by so many entries. Their nodes rise, so each is above the vector as it was.
+    fn entries(&mut self, count: u8, vector: &mut Vector) -> Result<(), Fault>
+        ensures { Gives (λ _. (vector.new, self.new.rest.now)) result (entries_at count 0 vector.old vector.old self.old.rest.now) }
     {
-        let mut to = *from;
         let mut next = 0;
         for _ in 0..count {
-            let stamp = self.entry(next, from)?;
-            to.raise(&stamp);
+            let stamp = self.entry(next, vector)?;
+            vector.raise(&stamp);
             next = stamp.node() + 1;
         }
-        Ok(to)
+        Ok(())
     }
 
-    /// What a vector has above this one.
+    /// Raises the vector to one of which is read what it has above it.
     #[tactic(auto, unfolding(crate::specs::Reading::rise_at))]
-    pub fn rise(&mut self, from: &Vector) -> Result<Vector, Fault>
-        ensures { Gives (λ x. (x, self.new.rest.now)) result (rise_at from.now self.old.rest.now) }
+    pub fn rise(&mut self, vector: &mut Vector) -> Result<(), Fault>
+        ensures { Gives (λ _. (vector.new, self.new.rest.now)) result (rise_at vector.old self.old.rest.now) }
     {
         let count = self.byte()?;
-        self.entries(count, from)
+        self.entries(count, vector)
     }
 
     /// A vector.
@@ -66,30 +65,32 @@ impl<'a> Cursor<'a> {
     pub fn vector(&mut self) -> Result<Vector, Fault>
         ensures { Gives (λ x. (x, self.new.rest.now)) result (vector_at self.old.rest.now) }
     {
-        self.rise(&Vector::zero())
+        let mut vector = Vector::zero();
+        self.rise(&mut vector)?;
+        Ok(vector)
     }
 
-    /// The end of points that start at a vector.
+    /// Raises the vector at which points start to the one at which they end.
     #[tactic(auto, unfolding(crate::specs::Reading::end_at))]
-    pub fn end(&mut self, format: Format, from: &Vector) -> Result<Vector, Fault>
-        ensures { Gives (λ x. (x, self.new.rest.now)) result (end_at format from.now self.old.rest.now) }
+    pub fn end(&mut self, format: Format, vector: &mut Vector) -> Result<(), Fault>
+        ensures { Gives (λ _. (vector.new, self.new.rest.now)) result (end_at format vector.old self.old.rest.now) }
     {
         match format {
-            Format::One => self.whole_end(from),
-            Format::Two => self.rise(from),
+            Format::One => self.whole_end(vector),
+            Format::Two => self.rise(vector),
         }
     }
 
     // The end as a whole vector.
     #[tactic(auto, unfolding(crate::specs::Reading::end_at))]
-    fn whole_end(&mut self, from: &Vector) -> Result<Vector, Fault>
-        ensures { Gives (λ x. (x, self.new.rest.now)) result (end_at Format.One from.now self.old.rest.now) }
+    fn whole_end(&mut self, vector: &mut Vector) -> Result<(), Fault>
+        ensures { Gives (λ _. (vector.new, self.new.rest.now)) result (end_at Format.One vector.old self.old.rest.now) }
     {
         let to = self.vector()?;
-        if is_le(from, &to) {
-            Ok(to)
-        } else {
-            Err(Fault::Bad)
+        if !is_le(vector, &to) {
+            return Err(Fault::Bad);
         }
+        *vector = to;
+        Ok(())
     }
 }

@@ -95,6 +95,7 @@ pub fn put_write(chunk: &mut Chunk, write: &WriteRec)
     requires { length chunk.old.items + 85 ≤ 704 }
     ensures text { chunk.new.items ≡ chunk.old.items ++ write_text Format.Two write.now }
     ensures size { length chunk.new.items ≤ length chunk.old.items + 85 }
+    ensures grows { length chunk.old.items ≤ length chunk.new.items }
 {
     put_name(chunk, &write.name);
     put_stamp(chunk, &write.stamp);

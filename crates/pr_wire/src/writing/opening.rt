@@ -21,12 +21,13 @@ fn kind_byte(kind: &Kind) -> u8
     }
 }
 
-/// Writes the fields up to the first list, or to the end, and says what is left.
+/// Adds the fields up to the first list, or to the end, and says what is left.
 #[tactic(auto, unfolding(crate::specs::Spelling::content))]
 pub fn open<'a>(msg: &'a Msg, chunk: &mut Chunk) -> Left<'a>
-    requires { chunk.old.items ≡ [] }
-    ensures text { content Format.Two msg.now ≡ chunk.new.items ++ left_text result }
-    ensures size { length chunk.new.items ≤ 684 }
+    requires { length chunk.old.items ≤ 9 }
+    ensures text { chunk.old.items ++ content Format.Two msg.now ≡ chunk.new.items ++ left_text result }
+    ensures grows { length chunk.old.items ≤ length chunk.new.items }
+    ensures size { length chunk.new.items ≤ length chunk.old.items + 684 }
 {
     put_byte(chunk, kind_byte(&msg.kind));
     put_eight(chunk, msg.time);
@@ -37,8 +38,9 @@ pub fn open<'a>(msg: &'a Msg, chunk: &mut Chunk) -> Left<'a>
 
 #[tactic(auto, unfolding(crate::specs::Spelling::kind_text, crate::specs::Spelling::end_text, crate::specs::Spelling::list_text))]
 fn open_kind<'a>(kind: &'a Kind, chunk: &mut Chunk) -> Left<'a>
-    requires { length chunk.old.items ≤ 21 }
+    requires { length chunk.old.items ≤ 30 }
     ensures text { chunk.old.items ++ kind_text Format.Two kind.now ≡ chunk.new.items ++ left_text result }
+    ensures grows { length chunk.old.items ≤ length chunk.new.items }
     ensures size { length chunk.new.items ≤ length chunk.old.items + 663 }
 {
     match kind {

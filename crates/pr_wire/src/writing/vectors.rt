@@ -26,6 +26,7 @@ fn put_entries(chunk: &mut Chunk, from: &Vector, to: &Vector, count: u8)
     requires count { count ≡ length (above from.now to.now 0 32) }
     ensures text { chunk.new.items ≡ chunk.old.items ++ flat_map entry_text (above from.now to.now 0 32) }
     ensures size { length chunk.new.items ≤ length chunk.old.items + 288 }
+    ensures grows { length chunk.old.items ≤ length chunk.new.items }
 {
     let mut left = count;
     for n in 0..NODES {
@@ -46,6 +47,7 @@ pub fn put_rise(chunk: &mut Chunk, from: &Vector, to: &Vector)
     requires { length chunk.old.items + 289 ≤ 704 }
     ensures text { chunk.new.items ≡ chunk.old.items ++ rise_text from.now to.now }
     ensures size { length chunk.new.items ≤ length chunk.old.items + 289 }
+    ensures grows { length chunk.old.items ≤ length chunk.new.items }
 {
     let count = count_above(from, to);
     put_byte(chunk, count);
@@ -57,6 +59,7 @@ pub fn put_vector(chunk: &mut Chunk, vector: &Vector)
     requires { length chunk.old.items + 289 ≤ 704 }
     ensures text { chunk.new.items ≡ chunk.old.items ++ vector_text vector.now }
     ensures size { length chunk.new.items ≤ length chunk.old.items + 289 }
+    ensures grows { length chunk.old.items ≤ length chunk.new.items }
 {
     put_rise(chunk, &Vector::zero(), vector);
 }

@@ -1,4 +1,4 @@
-use Rattle.std.proofs.Common.{◌∙◌, ◌+◌, ◌^◌, ◌++◌, ap, List, ℕ, length}
+use Rattle.std.proofs.Common.{◌∙◌, ◌+◌, ◌-◌, ◌^◌, ap, List, ℕ, length, arith}
 use Rattle.std.specs.Prelude.{◌%◌}
 use Rattle.pr_wire.specs.Pieces.{left_text}
 use Rattle.pr_wire.proofs.WriteLemmas.{frame_begins}
@@ -7,9 +7,11 @@ use Rattle.pr_wire.proofs.pieces.Pieces.new.Goals as goal
 pub returns-clause-rest : goal.returns-clause-rest
 returns-clause-rest c =
     let left = left_text c.open-left.result in
-    let fields = c.open-left.new.chunk.items in
-    frame_begins c.args.msg.now ((c.len_of.result + c.len.result) % 2 ^ 64) c.put_head.new.chunk.items fields c.put.new.chunk.items left
+    let filled = c.open-left.new.chunk.items in
+    frame_begins c.args.msg.now ((c.len_of.result + (c.len.result - 9)) % 2 ^ 64) c.put_head.new.chunk.items filled c.set_length.new.chunk.items left
+    c.put_head.ensures.format
+    c.put_head.ensures.size
+    c.open-left.ensures.grows
     c.open-left.ensures.text
-    (ap (λ (n : ℕ). (n + c.len.result) % 2 ^ 64) c.len_of.ensures ∙ ap (λ (n : ℕ). (length left % 2 ^ 64 + n) % 2 ^ 64) c.len.ensures.value)
-    c.put_head.ensures.text
-    (c.put.ensures.text ∙ ap (λ (t : List ℕ). c.put_head.new.chunk.items ++ t) c.as_slice.ensures.value)
+    (ap (λ (n : ℕ). (n + (c.len.result - 9)) % 2 ^ 64) c.len_of.ensures ∙ ap (λ (n : ℕ). (length left % 2 ^ 64 + (n - 9)) % 2 ^ 64) c.len.ensures.value)
+    c.set_length.ensures

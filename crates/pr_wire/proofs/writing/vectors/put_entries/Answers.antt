@@ -21,6 +21,7 @@ loop-n-preserved c =
             all = rw w.chunk-is turn;
             left = rw w.left-is (one_less from to n c.loop-n.left c.loop-n-test.true rise c.loop-n.invariant.left);
             size = rw w.chunk-is (omega (arith, c.loop-n.invariant.size, w.put_byte.ensures.size, w.put_eight.ensures.size));
+            grows = rw w.chunk-is (omega (arith, c.loop-n.invariant.grows, w.put_byte.ensures.size, w.put_eight.ensures.size));
           }
       | else-at w ↦
           let stay : clock_of to n ≤ clock_of from n = omega (arith, w.if-at.false, c.at.ensures.value, c.at-in-loop-n.ensures.value) in
@@ -29,6 +30,7 @@ loop-n-preserved c =
             all = rw w.chunk-is turn;
             left = rw w.left-is (none_less from to n c.loop-n.left c.loop-n-test.true stay c.loop-n.invariant.left);
             size = rw w.chunk-is (omega (arith, c.loop-n.invariant.size));
+            grows = rw w.chunk-is c.loop-n.invariant.grows;
           }
     ]
 

@@ -8,4 +8,5 @@ invariant-loop-n l = record {
   all : l.chunk.items ++ flat_map entry_text (above l.from l.to l.n (32 - l.n)) ≡ l.fn.chunk.items ++ flat_map entry_text (above l.from l.to 0 32);
   left : l.left ≡ length (above l.from l.to l.n (32 - l.n));
   size : length l.chunk.items ≤ length l.fn.chunk.items + 9 * l.n;
+  grows : length l.fn.chunk.items ≤ length l.chunk.items;
 }
