@@ -21,6 +21,7 @@ use Rattle.pr_wire.specs.Spelling.{above}
 use Rattle.pr_wire.specs.declared.fault.Fault.{Fault}
 use Rattle.pr_wire.specs.declared.fault.Fault.TheVariants.{NoMemory, Bad}
 use Rattle.pr_wire.specs.declared.format.Format.{Format}
+use Rattle.pr_wire.specs.declared.reading.kinds.Header.{Header}
 use Rattle.pr_wire.specs.declared.format.Format.TheVariants.{One, Two}
 
 -- what a function answered, seen by view, is what reading gives, unless memory ran out
@@ -264,6 +265,13 @@ kind_at f kind bytes =
 abbrev pub is_number : ℕ → Bool
 is_number n = nat_le 1 n && nat_le n 4611686018427387903
 
+unfoldable pub header_at : List ℕ → Option (Header × List ℕ)
+header_at bytes = do
+  time ← eight_at bytes
+  stream ← four_at time.1
+  number ← eight_at stream.1
+  given (is_number time.0 && is_number number.0) (record { time = time.0; stream = stream.0; number = number.0 }, number.1)
+
 unfoldable pub content_at : Format → List ℕ → Option (Msg × List ℕ)
 content_at f bytes = do
   kind ← byte_at bytes
@@ -273,6 +281,12 @@ content_at f bytes = do
   known ← given (is_number time.0 && is_number number.0) number
   fields ← kind_at f kind.0 known.1
   Some (record { time = time.0; stream = stream.0; number = known.0; kind = fields.0 }, fields.1)
+
+-- the message of this header and kind, where no bytes are left
+unfoldable pub whole : Header → Option (Kind × List ℕ) → Option Msg
+whole header read = do
+  fields ← read
+  given (length fields.1 == 0) (record { time = header.time; stream = header.stream; number = header.number; kind = fields.0 })
 
 -- the message of which all the bytes are the content
 unfoldable pub message_at : Format → List ℕ → Option Msg

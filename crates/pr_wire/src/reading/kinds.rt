@@ -1,5 +1,5 @@
 // The kinds of message.
-ghost use Rattle.pr_wire.specs.Reading.{Gives, body_at, checkpoint_at, imprecise_at, is_number, kind_at, message_at, precise_at, write_at};
+ghost use Rattle.pr_wire.specs.Reading.{Gives, body_at, checkpoint_at, header_at, imprecise_at, is_number, message_at, precise_at, whole, write_at};
 ghost use Rattle.std.specs.Prelude.{◌≡◌, List};
 
 use crate::fault::Fault;
@@ -20,35 +20,51 @@ fn is_number(number: u64) -> bool
     1 <= number && number <= MAX
 }
 
+// What stands before the fields of a message's kind.
+#[derive(Clone, Copy)]
+struct Header {
+    time: u64,
+    stream: u32,
+    number: u64,
+}
+
 /// The message of these bytes, which are a frame of the format without its head of 9 bytes, in time linear in them. Bad
 /// says that they are the content of no message in the format.
-#[tactic(auto, unfolding(crate::specs::Reading::message_at, crate::specs::Reading::content_at))]
-#[inline(never)]
+#[tactic(auto, unfolding(crate::specs::Reading::message_at, crate::specs::Reading::content_at, crate::specs::Reading::kind_at, crate::specs::Reading::header_at, crate::specs::Reading::whole))]
 pub fn message(alloc: Global, format: Format, bytes: &[u8]) -> Result<Msg, Fault>
     ensures { Gives (λ x. x) result (message_at format bytes.now) }
 {
     let mut cursor = Cursor { rest: bytes };
     let kind = cursor.byte()?;
-    let time = cursor.eight()?;
-    let stream = cursor.four()?;
-    let number = cursor.eight()?;
-    if !(is_number(time) && is_number(number)) {
-        return Err(Fault::Bad);
+    let header = cursor.header()?;
+    match kind {
+        1 => cursor.precise(format, &header),
+        2 => cursor.imprecise(alloc, format, &header),
+        3 => cursor.checkpoint(alloc, format, &header),
+        4 => cursor.body(alloc, &header),
+        _ => Err(Fault::Bad),
     }
-    let kind = cursor.kind(alloc, format, kind)?;
-    if !cursor.rest.is_empty() {
-        return Err(Fault::Bad);
-    }
-    Ok(Msg {
-        time,
-        stream,
-        number,
-        kind,
-    })
 }
 
-// Each kind is read in a call of its own, which makes it where it is answered.
+// A message of each kind is read in a call of its own, which makes it where it is answered.
 impl<'a> Cursor<'a> {
+    #[tactic(auto, unfolding(crate::specs::Reading::header_at))]
+    fn header(&mut self) -> Result<Header, Fault>
+        ensures { Gives (λ x. (x, self.new.rest.now)) result (header_at self.old.rest.now) }
+    {
+        let time = self.eight()?;
+        let stream = self.four()?;
+        let number = self.eight()?;
+        if !(is_number(time) && is_number(number)) {
+            return Err(Fault::Bad);
+        }
+        Ok(Header {
+            time,
+            stream,
+            number,
+        })
+    }
+
     #[tactic(auto, unfolding(crate::specs::Reading::write_at))]
     fn write(&mut self, format: Format) -> Result<WriteRec, Fault>
         ensures { Gives (λ x. (x, self.new.rest.now)) result (write_at format self.old.rest.now) }
@@ -64,40 +80,55 @@ impl<'a> Cursor<'a> {
         })
     }
 
-    #[tactic(auto, unfolding(crate::specs::Reading::precise_at, crate::specs::Reading::vector_at))]
+    #[tactic(auto, unfolding(crate::specs::Reading::precise_at, crate::specs::Reading::vector_at, crate::specs::Reading::whole))]
     #[inline(never)]
-    fn precise(&mut self, format: Format) -> Result<Kind, Fault>
-        ensures { Gives (λ x. (x, self.new.rest.now)) result (precise_at format self.old.rest.now) }
+    fn precise(&mut self, format: Format, header: &Header) -> Result<Msg, Fault>
+        ensures { Gives (λ x. x) result (whole header.now (precise_at format self.old.rest.now)) }
     {
         let mut from = Vector::zero();
         self.rise(&mut from)?;
         let mut to = from;
         self.end(format, &mut to)?;
         let write = self.write(format)?;
-        if is_between(&from, &to, &write.stamp) {
-            Ok(Kind::Precise { from, to, write })
-        } else {
-            Err(Fault::Bad)
+        if !is_between(&from, &to, &write.stamp) {
+            return Err(Fault::Bad);
         }
+        if !self.rest.is_empty() {
+            return Err(Fault::Bad);
+        }
+        Ok(Msg {
+            time: header.time,
+            stream: header.stream,
+            number: header.number,
+            kind: Kind::Precise { from, to, write },
+        })
     }
 
-    #[tactic(auto, unfolding(crate::specs::Reading::imprecise_at, crate::specs::Reading::vector_at))]
+    #[tactic(auto, unfolding(crate::specs::Reading::imprecise_at, crate::specs::Reading::vector_at, crate::specs::Reading::whole))]
     #[inline(never)]
-    fn imprecise(&mut self, alloc: Global, format: Format) -> Result<Kind, Fault>
-        ensures { Gives (λ x. (x, self.new.rest.now)) result (imprecise_at format self.old.rest.now) }
+    fn imprecise(&mut self, alloc: Global, format: Format, header: &Header) -> Result<Msg, Fault>
+        ensures { Gives (λ x. x) result (whole header.now (imprecise_at format self.old.rest.now)) }
     {
         let mut from = Vector::zero();
         self.rise(&mut from)?;
         let mut to = from;
         self.end(format, &mut to)?;
         let target = self.target(alloc)?;
-        Ok(Kind::Imprecise { from, to, target })
+        if !self.rest.is_empty() {
+            return Err(Fault::Bad);
+        }
+        Ok(Msg {
+            time: header.time,
+            stream: header.stream,
+            number: header.number,
+            kind: Kind::Imprecise { from, to, target },
+        })
     }
 
-    #[tactic(auto, unfolding(crate::specs::Reading::checkpoint_at))]
+    #[tactic(auto, unfolding(crate::specs::Reading::checkpoint_at, crate::specs::Reading::whole))]
     #[inline(never)]
-    fn checkpoint(&mut self, alloc: Global, format: Format) -> Result<Kind, Fault>
-        ensures { Gives (λ x. (x, self.new.rest.now)) result (checkpoint_at format self.old.rest.now) }
+    fn checkpoint(&mut self, alloc: Global, format: Format, header: &Header) -> Result<Msg, Fault>
+        ensures { Gives (λ x. x) result (whole header.now (checkpoint_at format self.old.rest.now)) }
     {
         let to = self.vector()?;
         let target = self.target(alloc)?;
@@ -112,18 +143,26 @@ impl<'a> Cursor<'a> {
             floor: &floor,
         };
         let rows = self.rows(alloc, &bounds)?;
-        Ok(Kind::Checkpoint {
-            to,
-            target,
-            floor,
-            rows,
+        if !self.rest.is_empty() {
+            return Err(Fault::Bad);
+        }
+        Ok(Msg {
+            time: header.time,
+            stream: header.stream,
+            number: header.number,
+            kind: Kind::Checkpoint {
+                to,
+                target,
+                floor,
+                rows,
+            },
         })
     }
 
-    #[tactic(auto, unfolding(crate::specs::Reading::body_at))]
+    #[tactic(auto, unfolding(crate::specs::Reading::body_at, crate::specs::Reading::whole))]
     #[inline(never)]
-    fn body(&mut self, alloc: Global) -> Result<Kind, Fault>
-        ensures { Gives (λ x. (x, self.new.rest.now)) result (body_at self.old.rest.now) }
+    fn body(&mut self, alloc: Global, header: &Header) -> Result<Msg, Fault>
+        ensures { Gives (λ x. x) result (whole header.now (body_at self.old.rest.now)) }
     {
         let name = self.name()?;
         let stamp = self.stamp()?;
@@ -132,20 +171,15 @@ impl<'a> Cursor<'a> {
             return Err(Fault::Bad);
         }
         let text = self.run(len as usize)?;
-        let bytes = Seq::copied(alloc, text)?;
-        Ok(Kind::Body { name, stamp, bytes })
-    }
-
-    #[tactic(auto, unfolding(crate::specs::Reading::kind_at))]
-    fn kind(&mut self, alloc: Global, format: Format, kind: u8) -> Result<Kind, Fault>
-        ensures { Gives (λ x. (x, self.new.rest.now)) result (kind_at format kind self.old.rest.now) }
-    {
-        match kind {
-            1 => self.precise(format),
-            2 => self.imprecise(alloc, format),
-            3 => self.checkpoint(alloc, format),
-            4 => self.body(alloc),
-            _ => Err(Fault::Bad),
+        if !self.rest.is_empty() {
+            return Err(Fault::Bad);
         }
+        let bytes = Seq::copied(alloc, text)?;
+        Ok(Msg {
+            time: header.time,
+            stream: header.stream,
+            number: header.number,
+            kind: Kind::Body { name, stamp, bytes },
+        })
     }
 }
