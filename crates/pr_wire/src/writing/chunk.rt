@@ -4,7 +4,8 @@ ghost use Rattle.std.specs.Prelude.{◌≡◌, ◌≤◌, ◌+◌, [], ◌∷◌
 
 use arrayvec::ArrayVec;
 
-/// Room for the fields that are written at once: at most the head of a precise message, which has 684 bytes.
+/// Room for the fields that are written at once: at most those of a precise message, which have 684 bytes, behind the
+/// frame's head of 9.
 pub type Chunk = ArrayVec<u8, 704>;
 
 pub fn put_byte(chunk: &mut Chunk, byte: u8)
