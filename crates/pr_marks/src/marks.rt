@@ -55,7 +55,7 @@ impl Marks {
     }
 
     /// Knows of a write: its stamp, and its mark where the floor does not cover it. It takes time logarithmic in the
-    /// names, and linear in the marks of the name after this one.
+    /// names and in the marks of the name after this one, and linear in these where it is put before them.
     pub fn add(&mut self, name: &Name, mark: &Mark, gone: bool) -> Result<(), NoMemory>
         ensures ok { OnOk result (IsMarked self.old self.new name.now mark.now gone) }
         ensures works { OnOk result (self.new.spent ≡ false) }

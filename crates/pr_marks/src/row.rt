@@ -90,18 +90,34 @@ impl Row {
     }
 }
 
-// How many marks come before the stamp, found from the end, where a new mark mostly goes.
+// How many marks come before the stamp, in time logarithmic in the marks that do not.
 fn place(marks: &[Mark], stamp: &Stamp) -> usize
     requires { Rises marks.now }
     ensures within { result ≤ length marks.now }
     ensures before { (k : ℕ) (d : Mark) → k < result → IsTrue (is_before (slice_index_or marks.now k d).stamp stamp.now) }
     ensures after { (k : ℕ) (d : Mark) → result ≤ k → k < length marks.now → is_before (slice_index_or marks.now k d).stamp stamp.now ≡ false }
 {
-    let mut at = marks.len();
-    while at > 0 && !marks[at - 1].stamp.is_before(stamp) {
-        at -= 1;
+    let start = start(marks, stamp);
+    start + marks[start..].partition_point(|mark| mark.stamp.is_before(stamp))
+}
+
+// So many marks come before the stamp, and perhaps more: found from the end, where a new mark mostly goes, by steps
+// that double.
+fn start(marks: &[Mark], stamp: &Stamp) -> usize
+    requires { Rises marks.now }
+    ensures within { result ≤ length marks.now }
+    ensures before { (k : ℕ) (d : Mark) → k < result → IsTrue (is_before (slice_index_or marks.now k d).stamp stamp.now) }
+{
+    let len = marks.len();
+    let mut back: usize = 1;
+    while back < len {
+        let at = len - back;
+        if marks[at].stamp.is_before(stamp) {
+            return at + 1;
+        }
+        back = back.saturating_mul(2);
     }
-    at
+    0
 }
 
 // Whether the mark at this place has the stamp.
