@@ -25,6 +25,15 @@ same_point s t c n = ap (λ (k : ℕ). let r : Point = record { clock = k; node 
 pub before_other : (s t : Point) → is_before s t ≡ false → ¬ (s ≡ t) → IsTrue (is_before t s)
 before_other s t h other = either_nat s.clock s.node t.clock t.node h (λ c n. other (same_point s t c n))
 
+same_clock : (a b c d : ℕ) → (nat_lt a c || (nat_eq a c && nat_lt b d)) ≡ false → (nat_lt c a || (nat_eq c a && nat_lt d b)) ≡ false → a ≡ c
+same_clock a b c d h g = grind (arith, nat_tests)
+
+same_node : (a b c d : ℕ) → (nat_lt a c || (nat_eq a c && nat_lt b d)) ≡ false → (nat_lt c a || (nat_eq c a && nat_lt d b)) ≡ false → b ≡ d
+same_node a b c d h g = grind (arith, nat_tests)
+
+pub neither_before : (s t : Point) → is_before s t ≡ false → is_before t s ≡ false → s ≡ t
+neither_before s t h g = same_point s t (same_clock s.clock s.node t.clock t.node h g) (same_node s.clock s.node t.clock t.node h g)
+
 irreflexive_nat : (a b : ℕ) → (nat_lt a a || (nat_eq a a && nat_lt b b)) ≡ false
 irreflexive_nat a b = grind (arith, nat_tests)
 
@@ -48,7 +57,7 @@ found (x ∷ xs) m d zero lt before same =
 found (x ∷ xs) m d (suc at) lt before same =
     rw (before 0 (omega arith)) (ap (λ ys. x ∷ ys) (found xs m d at (omega arith) (λ k less. before (suc k) (omega arith)) same))
 
-less_or : (a b : ℕ) → (a < b) ⊎ (b ≤ a)
+pub less_or : (a b : ℕ) → (a < b) ⊎ (b ≤ a)
 less_or a b = grind (arith, nat_tests)
 
 -- those that come before a stamp stand first

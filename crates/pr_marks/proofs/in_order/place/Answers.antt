@@ -3,7 +3,7 @@ use Rattle.std.proofs.lemmas.Fn.{always_returns_same}
 use Rattle.pr_stamps.specs.Point.{is_before}
 use Rattle.pr_stamps.specs.declared.mark.Mark.{Mark}
 use Rattle.pr_marks.proofs.Placed.{after_part, before_first, before_part, rises_part}
-use Rattle.pr_marks.proofs.row.place.Goals as goal
+use Rattle.pr_marks.proofs.in_order.place.Goals as goal
 
 pub returns-clause-before : goal.returns-clause-before
 returns-clause-before c k d lt =

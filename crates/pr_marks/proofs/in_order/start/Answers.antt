@@ -2,7 +2,7 @@ use Rattle.std.proofs.Common.{◌∙◌, sym, ap, arith, ◌-◌, length}
 use Rattle.pr_stamps.specs.Point.{is_before}
 use Rattle.pr_stamps.specs.declared.mark.Mark.{Mark}
 use Rattle.pr_marks.proofs.Placed.{all_before}
-use Rattle.pr_marks.proofs.row.start.Goals as goal
+use Rattle.pr_marks.proofs.in_order.start.Goals as goal
 
 pub returns-then-is_before-clause-before : goal.returns-then-is_before-clause-before
 returns-then-is_before-clause-before c =

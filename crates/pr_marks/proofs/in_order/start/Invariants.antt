@@ -1,5 +1,5 @@
 use Rattle.std.proofs.Common.{◌<◌, ◌-◌}
-use Rattle.pr_marks.proofs.row.start.Given as goal
+use Rattle.pr_marks.proofs.in_order.start.Given as goal
 
 abbrev pub invariant-loop-back : goal.invariant-loop-back
 invariant-loop-back l = 0 < l.back
