@@ -52,14 +52,14 @@ and_false true = refl
 and_false false = refl
 
 -- a mark conflicts with none that is not behind it
-no_conflict : (x y : Mark) → is_before x.stamp y.stamp ≡ false → is_conflict x y ≡ false
+pub no_conflict : (x y : Mark) → is_before x.stamp y.stamp ≡ false → is_conflict x y ≡ false
 no_conflict x y e = ap (λ b. is_missed y.prev x.stamp && b) e ∙ and_false (is_missed y.prev x.stamp)
 
 missed_too : (prev : Option Point) (s t : Point) → IsTrue (is_before s t) → IsTrue (is_missed prev s) → IsTrue (is_missed prev t)
 missed_too None s t before missed = refl
 missed_too (Some p) s t before missed = before_trans p s t missed before
 
-conflict_too : (x y z : Mark) → IsTrue (is_before x.stamp y.stamp) → IsTrue (is_before y.stamp z.stamp) → is_conflict x z ≡ true → is_conflict y z ≡ true
+pub conflict_too : (x y z : Mark) → IsTrue (is_before x.stamp y.stamp) → IsTrue (is_before y.stamp z.stamp) → is_conflict x z ≡ true → is_conflict y z ≡ true
 conflict_too x y z xy yz e = both (is_missed z.prev y.stamp) (is_before y.stamp z.stamp) (missed_too z.prev x.stamp y.stamp xy (first (is_missed z.prev x.stamp) (is_before x.stamp z.stamp) e)) yz
   where
     first : (a b : Bool) → (a && b) ≡ true → IsTrue a
@@ -93,7 +93,7 @@ conflicts_left x (y ∷ ys) rise =
 before_nat : (a b c d : ℕ) → IsTrue (nat_lt a c || (nat_eq a c && nat_lt b d)) → (nat_lt c a || (nat_eq c a && nat_lt d b)) ≡ false
 before_nat a b c d h = grind (arith, nat_tests)
 
-not_back : (s t : Point) → IsTrue (is_before s t) → is_before t s ≡ false
+pub not_back : (s t : Point) → IsTrue (is_before s t) → is_before t s ≡ false
 not_back s t h = before_nat s.clock s.node t.clock t.node h
 
 -- the pairs of each mark and those behind it

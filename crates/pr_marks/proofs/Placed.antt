@@ -1,9 +1,9 @@
 -- One more mark among marks in the order of their stamps.
-use Rattle.std.proofs.Common.{◌≡◌, ℕ, ◌≤◌, ◌<◌, ◌-◌, zero, suc, List, [], ◌∷◌, length, get_or, insert, Bool, true, false, refl, sym, ◌∙◌, ap, subst, nat_lt, nat_eq, ◌&&◌, ◌||◌, arith, IsTrue, inl, inr}
+use Rattle.std.proofs.Common.{◌≡◌, ℕ, ◌≤◌, ◌<◌, ◌+◌, ◌-◌, zero, suc, List, [], ◌∷◌, length, get_or, insert, take, drop, Bool, true, false, refl, sym, ◌∙◌, ap, subst, nat_lt, nat_eq, ◌&&◌, ◌||◌, arith, IsTrue, inl, inr}
 use Rattle.std.specs.Prelude.{◌⊎◌}
 use Rattle.std.specs.List.{All}
 use Rattle.std.proofs.lemmas.Bool.Decides.{nat_tests}
-use Rattle.std.proofs.lemmas.List.{get_or_default}
+use Rattle.std.proofs.lemmas.List.{get_or-drop, get_or_default, length-drop, take_all}
 use Rattle.std.proofs.lemmas.List.Kept.{AllPairs-cons}
 use Rattle.pr_stamps.specs.Point.{Point, is_before}
 use Rattle.pr_stamps.specs.declared.mark.Mark.{Mark}
@@ -24,6 +24,15 @@ same_point s t c n = ap (λ (k : ℕ). let r : Point = record { clock = k; node 
 -- of two stamps that differ one comes before the other
 pub before_other : (s t : Point) → is_before s t ≡ false → ¬ (s ≡ t) → IsTrue (is_before t s)
 before_other s t h other = either_nat s.clock s.node t.clock t.node h (λ c n. other (same_point s t c n))
+
+same_clock : (a b c d : ℕ) → (nat_lt a c || (nat_eq a c && nat_lt b d)) ≡ false → (nat_lt c a || (nat_eq c a && nat_lt d b)) ≡ false → a ≡ c
+same_clock a b c d h g = grind (arith, nat_tests)
+
+same_node : (a b c d : ℕ) → (nat_lt a c || (nat_eq a c && nat_lt b d)) ≡ false → (nat_lt c a || (nat_eq c a && nat_lt d b)) ≡ false → b ≡ d
+same_node a b c d h g = grind (arith, nat_tests)
+
+pub neither_before : (s t : Point) → is_before s t ≡ false → is_before t s ≡ false → s ≡ t
+neither_before s t h g = same_point s t (same_clock s.clock s.node t.clock t.node h g) (same_node s.clock s.node t.clock t.node h g)
 
 irreflexive_nat : (a b : ℕ) → (nat_lt a a || (nat_eq a a && nat_lt b b)) ≡ false
 irreflexive_nat a b = grind (arith, nat_tests)
@@ -48,18 +57,51 @@ found (x ∷ xs) m d zero lt before same =
 found (x ∷ xs) m d (suc at) lt before same =
     rw (before 0 (omega arith)) (ap (λ ys. x ∷ ys) (found xs m d at (omega arith) (λ k less. before (suc k) (omega arith)) same))
 
+pub less_or : (a b : ℕ) → (a < b) ⊎ (b ≤ a)
+less_or a b = grind (arith, nat_tests)
+
+-- those that come before a stamp stand first
+pub before_first : (xs : List Mark) (s : Point) (i j : ℕ) (d : Mark) → Rises xs → i ≤ j → j < length xs → IsTrue (is_before (get_or xs j d).stamp s) → IsTrue (is_before (get_or xs i d).stamp s)
+before_first xs s i j d rise le lt before = elim (less_or i j) [
+  | inl less ↦ before_trans (get_or xs i d).stamp (get_or xs j d).stamp s (rise i j d less lt) before
+  | inr from ↦ let same : i ≡ j = omega (arith, le, from) in subst (λ k. IsTrue (is_before (get_or xs k d).stamp s)) (sym same) before
+]
+
 -- marks up to one that comes before a stamp come before it too
-pub all_before : (xs : List Mark) (s : Point) (at : ℕ) (e : Mark) → Rises xs → at ≤ length xs → 0 < at → e ≡ get_or xs (at - 1) e → IsTrue (is_before e.stamp s) → (k : ℕ) (d : Mark) → k < at → IsTrue (is_before (get_or xs k d).stamp s)
-all_before xs s at e rise le some is last k d lt =
-    let here : get_or xs (at - 1) d ≡ e = get_or_default xs (at - 1) d e (omega arith) ∙ sym is in
-    let before : IsTrue (is_before (get_or xs (at - 1) d).stamp s) = rw here last in
-    elim (split k at some lt) [
-      | inl less ↦ before_trans (get_or xs k d).stamp (get_or xs (at - 1) d).stamp s (rise k (at - 1) d less (omega arith)) before
-      | inr same ↦ rw same before
-    ]
-  where
-    split : (k at : ℕ) → 0 < at → k < at → (k < at - 1) ⊎ (k ≡ at - 1)
-    split k at some lt = grind (arith, nat_tests)
+pub all_before : (xs : List Mark) (s : Point) (at : ℕ) (e : Mark) → Rises xs → at < length xs → e ≡ get_or xs at e → IsTrue (is_before e.stamp s) → (k : ℕ) (d : Mark) → k < at + 1 → IsTrue (is_before (get_or xs k d).stamp s)
+all_before xs s at e rise lt is last k d within = before_first xs s k at d rise (omega (arith, within)) lt (subst (λ (m : Mark). IsTrue (is_before m.stamp s)) (is ∙ get_or_default xs at e d lt) last)
+
+-- ---- the marks from a place on
+
+abbrev part : List Mark → ℕ → List Mark
+part xs i = take (length xs - i) (drop i xs)
+
+part_is : (xs : List Mark) (i : ℕ) → part xs i ≡ drop i xs
+part_is xs i = take_all (length xs - i) (drop i xs) (omega (arith, length-drop i xs))
+
+part_at : (xs : List Mark) (i k : ℕ) (d : Mark) → get_or (part xs i) k d ≡ get_or xs (i + k) d
+part_at xs i k d = ap (λ (l : List Mark). get_or l k d) (part_is xs i) ∙ get_or-drop i xs k d
+
+part_length : (xs : List Mark) (i : ℕ) → length (part xs i) ≡ length xs - i
+part_length xs i = ap length (part_is xs i) ∙ length-drop i xs
+
+pub rises_part : (xs : List Mark) (i : ℕ) → Rises xs → Rises (part xs i)
+rises_part xs i rise j k d lt within =
+    rw (part_at xs i j d, part_at xs i k d) (rise (i + j) (i + k) d (omega (arith, lt)) (omega (arith, within, part_length xs i)))
+
+-- how many come before a stamp is known of a part in front of which all do
+pub before_part : (xs : List Mark) (s : Point) (i r k : ℕ) (d : Mark) → ((k : ℕ) (d : Mark) → k < i → IsTrue (is_before (get_or xs k d).stamp s)) → (i ≤ k → k < i + r → IsTrue (is_before (get_or (part xs i) (k - i) d).stamp s)) → k < i + r → IsTrue (is_before (get_or xs k d).stamp s)
+before_part xs s i r k d before within lt = elim (less_or k i) [
+  | inl less ↦ before k d less
+  | inr from ↦
+      let same : i + (k - i) ≡ k = omega (arith, from) in
+      subst (λ (m : Mark). IsTrue (is_before m.stamp s)) (part_at xs i (k - i) d ∙ ap (λ j. get_or xs j d) same) (within from lt)
+]
+
+pub after_part : (xs : List Mark) (s : Point) (i r k : ℕ) (d : Mark) → (r ≤ k - i → k - i < length (part xs i) → is_before (get_or (part xs i) (k - i) d).stamp s ≡ false) → i + r ≤ k → k < length xs → is_before (get_or xs k d).stamp s ≡ false
+after_part xs s i r k d after le lt =
+    let same : i + (k - i) ≡ k = omega (arith, le) in
+    subst (λ (m : Mark). is_before m.stamp s ≡ false) (part_at xs i (k - i) d ∙ ap (λ j. get_or xs j d) same) (after (omega (arith, le)) (omega (arith, le, lt, part_length xs i)))
 
 -- ---- marks still rise with one more
 

@@ -2,6 +2,7 @@
 #![tactic(auto)]
 
 mod conflicts;
+mod in_order;
 mod marked;
 mod marks;
 mod row;

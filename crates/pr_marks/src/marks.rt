@@ -8,7 +8,7 @@ ghost use Rattle.std.specs.Prelude.{◌≡◌, [], true, false, None, Some, IfOk
 ghost use Rattle.std.specs.BTreeMap.{keys};
 
 use crate::row::Row;
-use crate::{Newest, conflicts, marked};
+use crate::{Newest, marked};
 use pr_names::Name;
 use pr_stamps::{Mark, NoMemory, Seq, Stamp};
 use pr_vectors::Vector;
@@ -55,7 +55,7 @@ impl Marks {
     }
 
     /// Knows of a write: its stamp, and its mark where the floor does not cover it. It takes time logarithmic in the
-    /// names, and linear in the marks of the name after this one.
+    /// names and in the marks of the name after this one, and linear in these where it is put before them.
     pub fn add(&mut self, name: &Name, mark: &Mark, gone: bool) -> Result<(), NoMemory>
         ensures ok { OnOk result (IsMarked self.old self.new name.now mark.now gone) }
         ensures works { OnOk result (self.new.spent ≡ false) }
@@ -150,12 +150,15 @@ impl Marks {
         }
     }
 
-    /// The conflicts of the name, by the earlier stamp and then the later one, in time linear in its marks and in the
-    /// conflicts, and logarithmic in the names.
+    /// The conflicts of the name, by the earlier stamp and then the later one. It takes time logarithmic in the names,
+    /// and logarithmic in the marks for each conflict and each mark that conflicted with one that is forgotten.
     pub fn pairs(&self, name: &Name) -> Result<Seq<(Stamp, Stamp)>, NoMemory>
         ensures { IfOk result (λ pairs. pairs ≡ pairs_of (marks_of self.now name.now)) }
     {
-        conflicts::pairs(self.alloc, self.marks(name))
+        match self.rows.get(name) {
+            Some(row) => row.pairs(self.alloc),
+            None => Ok(Seq::new(self.alloc)),
+        }
     }
 
     // How many names are listed as having marks.

@@ -1,12 +1,12 @@
 // What is kept of a name.
+ghost use Rattle.pr_marks.specs.Pairs.{pairs_of};
 ghost use Rattle.pr_marks.specs.Row.{Rises, above_floor, with_mark};
 ghost use Rattle.pr_stamps.specs.Marks.{later};
-ghost use Rattle.pr_stamps.specs.Point.{is_before};
-ghost use Rattle.pr_stamps.specs.declared.mark.Mark.{Mark};
-ghost use Rattle.std.specs.Prelude.{◌≡◌, ◌==◌, ◌≤◌, ◌<◌, ℕ, [], false, length, not, slice_index_or, IsTrue, OnErr, OnOk};
+ghost use Rattle.std.specs.Prelude.{◌≡◌, ◌==◌, [], length, not, IfOk, OnErr, OnOk};
 
-use crate::Newest;
-use pr_stamps::{Mark, NoMemory, Stamp};
+use crate::in_order::{place, stands_at};
+use crate::{Newest, conflicts};
+use pr_stamps::{Mark, NoMemory, Seq, Stamp};
 use pr_vectors::Vector;
 use std::alloc::Global;
 use std::marker::Model;
@@ -16,16 +16,19 @@ use std::marker::Model;
 pub struct Row {
     newest: Newest,
     marks: Vec<Mark>,
+    // The marks that conflict with the one right before them, in the same order; others may be among them.
+    conflicting: Vec<Mark>,
 }
 
 impl Model for Row {
+    ghost use Rattle.pr_marks.specs.Conflicting.{ListsConflicts};
     ghost use Rattle.pr_marks.specs.Row.{Kept, Rises};
 
     ghost Value = { Kept };
 
     ghost view = { λ r. record { newest = r.newest; marks = r.marks.items } };
 
-    ghost invariant = { λ r. Rises r.marks.items };
+    ghost invariant = { λ r. Rises r.marks.items × ListsConflicts r.marks.items r.conflicting.items };
 }
 
 impl Row {
@@ -35,6 +38,7 @@ impl Row {
         Row {
             newest: *newest,
             marks: Vec::new(alloc),
+            conflicting: Vec::new(alloc),
         }
     }
 
@@ -77,8 +81,16 @@ impl Row {
         if stands_at(&self.marks, at, &mark.stamp) {
             return Ok(());
         }
+        conflicts::list(&mut self.conflicting, &self.marks, at, mark)?;
         self.marks.insert(at, *mark)?;
         Ok(())
+    }
+
+    // The conflicts among the marks.
+    pub fn pairs(&self, alloc: Global) -> Result<Seq<(Stamp, Stamp)>, NoMemory>
+        ensures { IfOk result (λ pairs. pairs ≡ pairs_of self.now.marks) }
+    {
+        conflicts::pairs(alloc, &self.marks, &self.conflicting)
     }
 
     // Drops the marks that the floor covers.
@@ -87,27 +99,6 @@ impl Row {
         ensures marks { self.new.marks ≡ above_floor floor.now self.old.marks }
     {
         self.marks.retain(|mark| !floor.covers(&mark.stamp));
+        self.conflicting.retain(|mark| !floor.covers(&mark.stamp));
     }
-}
-
-// How many marks come before the stamp, found from the end, where a new mark mostly goes.
-fn place(marks: &[Mark], stamp: &Stamp) -> usize
-    requires { Rises marks.now }
-    ensures within { result ≤ length marks.now }
-    ensures before { (k : ℕ) (d : Mark) → k < result → IsTrue (is_before (slice_index_or marks.now k d).stamp stamp.now) }
-    ensures after { (k : ℕ) (d : Mark) → result ≤ k → k < length marks.now → is_before (slice_index_or marks.now k d).stamp stamp.now ≡ false }
-{
-    let mut at = marks.len();
-    while at > 0 && !marks[at - 1].stamp.is_before(stamp) {
-        at -= 1;
-    }
-    at
-}
-
-// Whether the mark at this place has the stamp.
-fn stands_at(marks: &[Mark], at: usize, stamp: &Stamp) -> bool
-    ensures here { IsTrue result → (d : Mark) → (at < length marks.now) × ((slice_index_or marks.now at d).stamp ≡ stamp.now) }
-    ensures not_here { result ≡ false → (d : Mark) → at < length marks.now → ¬ ((slice_index_or marks.now at d).stamp ≡ stamp.now) }
-{
-    at < marks.len() && marks[at].stamp == *stamp
 }

@@ -108,3 +108,59 @@ fn names_are_listed_while_they_have_marks(rt: HostRuntime) {
     let mut table = Marks::new(rt.alloc());
     assert!(rt; are_listed(&mut table).unwrap_or(false));
 }
+
+type Point = (u64, u32);
+
+// Writes by their stamps and the stamps that their nodes knew, and orders in which they come.
+const WRITES: [(Point, Option<Point>); 6] = [
+    ((1, 0), None),
+    ((2, 1), Some((1, 0))),
+    ((3, 2), Some((1, 0))),
+    ((4, 0), Some((1, 0))),
+    ((5, 1), Some((4, 0))),
+    ((6, 2), None),
+];
+
+const ORDERS: [[usize; 6]; 3] = [[0, 1, 2, 3, 4, 5], [5, 4, 3, 2, 1, 0], [2, 5, 0, 3, 1, 4]];
+
+// Whether these are the pairs that a loop over all marks and all marks finds.
+fn are_all(pairs: &[(Stamp, Stamp)], marks: &[Mark]) -> bool {
+    let mut left = pairs.iter();
+    for earlier in marks {
+        for later in marks {
+            if earlier.conflicts_with(later) && left.next() != Some(&(earlier.stamp, later.stamp)) {
+                return false;
+            }
+        }
+    }
+    left.next().is_none()
+}
+
+// Whether all conflicts are found after each of these writes is added.
+fn find_all(table: &mut Marks, name: &Name, order: &[usize]) -> Option<bool> {
+    for at in order {
+        let (stamp, prev) = *WRITES.get(*at)?;
+        table.add(name, &mark(stamp, prev)?, false).ok()?;
+        let pairs = table.pairs(name).ok()?;
+        if !are_all(pairs.as_slice(), table.marks(name)) {
+            return Some(false);
+        }
+    }
+    Some(true)
+}
+
+fn find_all_behind_a_floor(table: &mut Marks, order: &[usize]) -> Option<bool> {
+    let name = Name::read(b"a").ok()?;
+    let (first, second) = order.split_at_checked(4)?;
+    let before = find_all(table, &name, first)?;
+    forget_up_to(table, &mark((4, 0), None)?.stamp);
+    Some(before && find_all(table, &name, second)?)
+}
+
+#[test]
+fn all_conflicts_are_found(rt: HostRuntime) {
+    for order in ORDERS {
+        let mut table = Marks::new(rt.alloc());
+        assert!(rt; find_all_behind_a_floor(&mut table, &order).unwrap_or(false));
+    }
+}
