@@ -15,11 +15,26 @@ pub struct Msg {
 }
 
 impl Msg {
-    /// A copy, in time linear in what the message holds.
+    /// A copy, in time linear in what the message holds. Of a precise one, as nearly all are, it is made where it is
+    /// answered.
     pub fn copy(&self, alloc: Global) -> Result<Msg, NoMemory>
         ensures { IfOk result (λ msg. msg ≡ self.now) }
     {
-        let kind = self.kind.copy(alloc)?;
+        let kind = match &self.kind {
+            Kind::Precise { from, to, write } => {
+                return Ok(Msg {
+                    time: self.time,
+                    stream: self.stream,
+                    number: self.number,
+                    kind: Kind::Precise {
+                        from: *from,
+                        to: *to,
+                        write: *write,
+                    },
+                });
+            }
+            kind => kind.copy(alloc)?,
+        };
         Ok(Msg {
             time: self.time,
             stream: self.stream,

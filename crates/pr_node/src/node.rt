@@ -310,7 +310,7 @@ impl Node {
     }
 
     /// The conflicts of a name ("PRACTI Replication", NSDI 2006, section 3.4), or the least untold point of its set, in
-    /// time linear in the marks of the name and in its conflicts.
+    /// the time of `Marks::pairs`.
     pub fn conflicts(&mut self, caller: u32, name: &Name) -> Result<Found, NodeFault>
         ensures ok { IfOk result (λ found. AddsAlone (means self.old) (means self.new) caller (λ e. e.event ≡ Conflicts name.now found)) }
         ensures fault { IfErr result (IsFault (means self.old) (means self.new) (IsTimeWorn (means self.old) 0)) }
