@@ -104,11 +104,11 @@ pub same_entry : (next : ℕ) (v w bytes : List ℕ) → ((n : ℕ) → next ≤
 unfolding entry_at
 same_entry next v w bytes later =
     bind_same (byte_at bytes) (λ node. eight_at node.1 >>= λ clock. stamp_of clock.0 node.0 >>= λ stamp. given (nat_le next stamp.node && nat_lt (clock_of v stamp.node) stamp.clock) (stamp, clock.1)) (λ node. eight_at node.1 >>= λ clock. stamp_of clock.0 node.0 >>= λ stamp. given (nat_le next stamp.node && nat_lt (clock_of w stamp.node) stamp.clock) (stamp, clock.1)) (λ node _.
-        bind_same (eight_at node.1) (λ clock. stamp_of clock.0 node.0 >>= λ stamp. given (nat_le next stamp.node && nat_lt (clock_of v stamp.node) stamp.clock) (stamp, clock.1)) (λ clock. stamp_of clock.0 node.0 >>= λ stamp. given (nat_le next stamp.node && nat_lt (clock_of w stamp.node) stamp.clock) (stamp, clock.1)) (λ clock _.
-            bind_same (stamp_of clock.0 node.0) (λ stamp. given (nat_le next stamp.node && nat_lt (clock_of v stamp.node) stamp.clock) (stamp, clock.1)) (λ stamp. given (nat_le next stamp.node && nat_lt (clock_of w stamp.node) stamp.clock) (stamp, clock.1)) (λ stamp is.
-                let known = (stamp_is clock.0 node.0 stamp is).1.known_node in
-                let made : Point × List ℕ = (stamp, clock.1) in
-                ap (λ (test : Bool). given test made) (and_same (nat_le next stamp.node) (nat_lt (clock_of v stamp.node) stamp.clock) (nat_lt (clock_of w stamp.node) stamp.clock) (λ e. ap (λ (k : ℕ). nat_lt k stamp.clock) (later stamp.node (leb-true _ _ e) known))))))
+    bind_same (eight_at node.1) (λ clock. stamp_of clock.0 node.0 >>= λ stamp. given (nat_le next stamp.node && nat_lt (clock_of v stamp.node) stamp.clock) (stamp, clock.1)) (λ clock. stamp_of clock.0 node.0 >>= λ stamp. given (nat_le next stamp.node && nat_lt (clock_of w stamp.node) stamp.clock) (stamp, clock.1)) (λ clock _.
+    bind_same (stamp_of clock.0 node.0) (λ stamp. given (nat_le next stamp.node && nat_lt (clock_of v stamp.node) stamp.clock) (stamp, clock.1)) (λ stamp. given (nat_le next stamp.node && nat_lt (clock_of w stamp.node) stamp.clock) (stamp, clock.1)) (λ stamp is.
+    let known = (stamp_is clock.0 node.0 stamp is).1.known_node in
+    let made : Point × List ℕ = (stamp, clock.1) in
+    ap (λ (test : Bool). given test made) (and_same (nat_le next stamp.node) (nat_lt (clock_of v stamp.node) stamp.clock) (nat_lt (clock_of w stamp.node) stamp.clock) (λ e. ap (λ (k : ℕ). nat_lt k stamp.clock) (later stamp.node (leb-true _ _ e) known))))))
 
 -- a vector that was raised at a node is as it was from the next one on
 pub later_same : (next : ℕ) (from to : List ℕ) (p : Point) → next ≤ p.node → ((n : ℕ) → next ≤ n → n < 32 → clock_of to n ≡ clock_of from n)

@@ -4,7 +4,7 @@ use Rattle.pr_inval.specs.declared.msg.Msg.{Msg}
 use Rattle.pr_wire.specs.declared.format.Format.{Format}
 use Rattle.pr_wire.specs.declared.frame.Head.{Head}
 use Rattle.pr_wire.specs.declared.frame.Head.TheVariants as heads
-use Rattle.pr_wire.specs.Frames.{HasNoFormat, IsBad, IsPartial, IsTooLong, said_length}
+use Rattle.pr_wire.specs.Frames.{HasNoFormat, IsPartial, IsTooLong, said_length}
 use Rattle.pr_wire.specs.Messages.{HasSpelling}
 use Rattle.pr_wire.specs.Spelling.{content, format_byte, spelling}
 

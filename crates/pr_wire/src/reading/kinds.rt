@@ -1,6 +1,6 @@
 // The kinds of message.
-ghost use Rattle.pr_wire.specs.Reading.{Gives, body_at, checkpoint_at, header_at, imprecise_at, is_number, message_at, precise_at, whole, write_at};
-ghost use Rattle.std.specs.Prelude.{◌≡◌, List};
+ghost use Rattle.pr_wire.specs.Reading.{Gives, body_at, checkpoint_at, given, header_at, imprecise_at, is_number, message_at, precise_at, whole, write_at};
+ghost use Rattle.std.specs.Prelude.{◌≡◌, ◌==◌, List, length};
 
 use crate::fault::Fault;
 use crate::format::Format;
@@ -65,6 +65,17 @@ impl<'a> Cursor<'a> {
         })
     }
 
+    // Bad says that bytes are left.
+    fn close(&self) -> Result<(), Fault>
+        ensures { Gives (λ _. self.now.rest.now) result (given (length self.now.rest.now == 0) self.now.rest.now) }
+    {
+        if self.rest.is_empty() {
+            Ok(())
+        } else {
+            Err(Fault::Bad)
+        }
+    }
+
     #[tactic(auto, unfolding(crate::specs::Reading::write_at))]
     fn write(&mut self, format: Format) -> Result<WriteRec, Fault>
         ensures { Gives (λ x. (x, self.new.rest.now)) result (write_at format self.old.rest.now) }
@@ -93,9 +104,7 @@ impl<'a> Cursor<'a> {
         if !is_between(&from, &to, &write.stamp) {
             return Err(Fault::Bad);
         }
-        if !self.rest.is_empty() {
-            return Err(Fault::Bad);
-        }
+        self.close()?;
         Ok(Msg {
             time: header.time,
             stream: header.stream,
@@ -114,9 +123,7 @@ impl<'a> Cursor<'a> {
         let mut to = from;
         self.end(format, &mut to)?;
         let target = self.target(alloc)?;
-        if !self.rest.is_empty() {
-            return Err(Fault::Bad);
-        }
+        self.close()?;
         Ok(Msg {
             time: header.time,
             stream: header.stream,
@@ -143,9 +150,7 @@ impl<'a> Cursor<'a> {
             floor: &floor,
         };
         let rows = self.rows(alloc, &bounds)?;
-        if !self.rest.is_empty() {
-            return Err(Fault::Bad);
-        }
+        self.close()?;
         Ok(Msg {
             time: header.time,
             stream: header.stream,
@@ -171,9 +176,7 @@ impl<'a> Cursor<'a> {
             return Err(Fault::Bad);
         }
         let text = self.run(len as usize)?;
-        if !self.rest.is_empty() {
-            return Err(Fault::Bad);
-        }
+        self.close()?;
         let bytes = Seq::copied(alloc, text)?;
         Ok(Msg {
             time: header.time,

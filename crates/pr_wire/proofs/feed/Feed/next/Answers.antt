@@ -1,4 +1,4 @@
-use Rattle.std.proofs.Common.{◌≡◌, ◌-◌, ◌+◌, List, ℕ, take, drop, length, refl, subst}
+use Rattle.std.proofs.Common.{◌-◌, List, ℕ, take, drop, length, refl, subst}
 use Rattle.pr_wire.specs.Frames.{IsBad}
 use Rattle.pr_wire.specs.Reading.{message_at}
 use Rattle.pr_wire.proofs.FeedLemmas.{given_from, is_rest}

@@ -1,4 +1,4 @@
-use Rattle.std.proofs.Common.{◌∙◌, ◌+◌, ◌-◌, ◌^◌, ap, List, ℕ, length, arith}
+use Rattle.std.proofs.Common.{◌∙◌, ◌+◌, ◌-◌, ◌^◌, ap, ℕ, length}
 use Rattle.std.specs.Prelude.{◌%◌}
 use Rattle.pr_wire.specs.Pieces.{left_text}
 use Rattle.pr_wire.proofs.WriteLemmas.{frame_begins}

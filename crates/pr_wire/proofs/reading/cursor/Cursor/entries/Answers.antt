@@ -1,6 +1,6 @@
-use Rattle.std.proofs.Common.{◌≡◌, List, ℕ, Option, sym, ap, ◌∙◌, subst}
+use Rattle.std.proofs.Common.{sym, ◌∙◌, subst}
 use Rattle.std.proofs.lemmas.Result.{err_from_is_err_and}
-use Rattle.pr_wire.specs.Reading.{Fails, entries_at, entry_at}
+use Rattle.pr_wire.specs.Reading.{Fails, entries_at}
 use Rattle.pr_wire.proofs.Loops.{entries_done, entries_fail, entries_go_on}
 use Rattle.pr_wire.proofs.VectorFields.{entry_later, later_same, same_entry}
 use Rattle.pr_wire.proofs.reading.cursor.Cursor.entries.Goals as goal
