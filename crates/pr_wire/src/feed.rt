@@ -1,13 +1,13 @@
 // A stream of frames, as it comes.
 ghost use Rattle.pr_inval.specs.declared.msg.Msg.{Msg};
 ghost use Rattle.pr_wire.specs.Feeding.{HasAnswered, HoldsJust, new_feed, pushed};
-ghost use Rattle.std.specs.Prelude.{◌≡◌, ◌≤◌, ◌<◌, ◌^◌, ◌↔◌, [], length, drop, IfOk, IsTrue, OnErr, OnOk};
+ghost use Rattle.std.specs.Prelude.{◌≡◌, ◌≤◌, ◌<◌, ◌^◌, ◌↔◌, [], length, IfOk, IsTrue, OnErr, OnOk};
 
 use crate::frame::{Frame, read_frame};
 use crate::law::{messages_are_never_bad, no_frame_begins_another};
 use crate::next::Next;
 use pr_inval::Msg;
-use pr_stamps::NoMemory;
+use pr_stamps::{NoMemory, drop_front};
 use std::alloc::Global;
 use std::marker::Model;
 
@@ -117,14 +117,4 @@ impl Feed {
             self.start = 0;
         }
     }
-}
-
-// Takes so many bytes off the front.
-fn drop_front(bytes: &mut Vec<u8>, count: usize)
-    requires { count ≤ length bytes.old.items }
-    ensures { bytes.new.items ≡ drop count bytes.old.items }
-{
-    let left = bytes.len() - count;
-    bytes.copy_within(count.., 0);
-    bytes.truncate(left);
 }
