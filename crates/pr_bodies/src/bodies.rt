@@ -66,7 +66,8 @@ impl Bodies {
         match self.rows.get_mut(name) {
             Some(row) => row.renew(stamp, bytes)?,
             None => {
-                let row = Row::one(self.alloc, stamp, bytes)?;
+                let mut row = Row::new(self.alloc);
+                row.renew(stamp, bytes)?;
                 self.rows.insert(*name, row)?;
             }
         }

@@ -1,7 +1,7 @@
 // The bodies of a name.
 ghost use Rattle.pr_bodies.specs.Bodies.{body_of, renewed};
 ghost use Rattle.pr_stamps.specs.Point.{Point, is_before, is_same};
-ghost use Rattle.std.specs.Prelude.{◌≡◌, IfOk, MatchOption, None, OnOk, Some, [], cond};
+ghost use Rattle.std.specs.Prelude.{◌≡◌, MatchOption, None, OnOk, Some, [], cond};
 
 use pr_stamps::{Bytes, NoMemory, Stamp};
 use std::alloc::Global;
@@ -29,15 +29,6 @@ impl Row {
         Row {
             bodies: Vec::new(alloc),
         }
-    }
-
-    /// The row of one body.
-    pub fn one(alloc: Global, stamp: &Stamp, bytes: Bytes) -> Result<Row, NoMemory>
-        ensures { IfOk result (λ row. (t : Point) → body_of row t ≡ renewed stamp.now bytes t None) }
-    {
-        let mut row = Row::new(alloc);
-        row.bodies.push((*stamp, bytes))?;
-        Ok(row)
     }
 
     /// Holds a body, in place of one with its stamp, in time linear in the bodies.

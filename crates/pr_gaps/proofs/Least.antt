@@ -1,16 +1,14 @@
 -- The least point that is not told, node by node.
 use Rattle.std.proofs.Common.{◌≡◌, ℕ, ◌≤◌, ◌<◌, ◌+◌, List, get_or, Option, None, Some, refl, sym, ◌∙◌, ap, subst, arith, inl, inr, nat_eq, cond, Bool, true, false, [], zero, suc}
-use Rattle.std.specs.Prelude.{◌⊎◌, max, min, IsSome, IfSome, is_some}
+use Rattle.std.specs.Prelude.{◌⊎◌, max, min, IsSome, IfSome}
 use Rattle.std.proofs.lemmas.Bool.Decides.{nat_tests}
 use Rattle.pr_stamps.specs.Point.{Point, Before, IsStamp}
+use Rattle.pr_stamps.proofs.Places.{below_or}
 use Rattle.pr_vectors.specs.Vector.{IsVector, Covers, clock_of, raised, zero_vector}
 use Rattle.pr_vectors.proofs.Vectors.{clock_of-vector_of, is-vector_of}
 use Rattle.pr_gaps.specs.Rows.{HasPoint}
 use Rattle.pr_gaps.specs.Gaps.{IsToldIn, IsLeastOutside, IsNodeOutside, IsLesser, Told, IsOwnTold}
 use Rattle.pr_vectors.specs.UpTo.{IsLastClock}
-
-below_or : (a n : ℕ) → a < n + 1 → (a < n) ⊎ (a ≡ n)
-below_or a n lt = grind (arith, nat_tests)
 
 less_or : (a n : ℕ) → (a < n) ⊎ (n ≤ a)
 less_or a n = grind (arith, nat_tests)
@@ -32,15 +30,26 @@ not_before : (T : Point → Type 0) (v : List ℕ) (n : ℕ) (b q : Point) → I
 not_before T v n b q (node, one, most, out, below) is from untold before =
     untold (at_node T q n is (below q.clock from (before_same q.clock q.node b.clock b.node (is ∙ sym node) before)))
 
+-- the node has none
+pub least_same : (T : Point → Type 0) (v : List ℕ) (n : ℕ) (a : Option Point) → IsLeastOutside T v n a → IsNodeOutside T v n None → IsLeastOutside T v (n + 1) a
+least_same T v n None least found = λ p lt covers. elim (below_or p.node n lt) [
+  | inl less ↦ least p less covers
+  | inr here ↦ at_node T p n here (found p.clock covers.0 (subst (λ k. p.clock ≤ clock_of v k) here covers.1))
+]
+least_same T v n (Some a) (lt, covers, out, least) found = (
+  omega (arith, lt),
+  covers,
+  out,
+  λ q below counts untold. elim (below_or q.node n below) [
+    | inl less ↦ least q less counts untold
+    | inr here ↦ absurd (untold (at_node T q n here (found q.clock counts.0 (subst (λ k. q.clock ≤ clock_of v k) here counts.1))))
+  ],
+)
+
 -- the least so far, and the node's least
-pub least_more : (T : Point → Type 0) (v : List ℕ) (n : ℕ) (a b r : Option Point) → IsLeastOutside T v n a → IsNodeOutside T v n b → IsLesser a b r → IsLeastOutside T v (n + 1) r
-least_more T v n None None r least found is =
-    subst (IsLeastOutside T v (n + 1)) (sym is) (λ p lt covers. elim (below_or p.node n lt) [
-      | inl less ↦ least p less covers
-      | inr here ↦ at_node T p n here (found p.clock covers.0 (subst (λ k. p.clock ≤ clock_of v k) here covers.1))
-    ])
-least_more T v n None (Some b) r least (node, one, most, out, below) is =
-    subst (IsLeastOutside T v (n + 1)) (sym is) (
+pub least_more : (T : Point → Type 0) (v : List ℕ) (n : ℕ) (a : Option Point) (b r : Point) → IsLeastOutside T v n a → IsNodeOutside T v n (Some b) → IsLesser a b r → IsLeastOutside T v (n + 1) (Some r)
+least_more T v n None b r least (node, one, most, out, below) is =
+    subst (λ x. IsLeastOutside T v (n + 1) (Some x)) (sym is) (
       omega (arith, node),
       (one, subst (λ k. b.clock ≤ clock_of v k) (sym node) most),
       out,
@@ -49,18 +58,8 @@ least_more T v n None (Some b) r least (node, one, most, out, below) is =
         | inr here ↦ not_before T v n b q (node, one, most, out, below) here covers.0 untold
       ],
     )
-least_more T v n (Some a) None r (lt, covers, out, least) found is =
-    subst (IsLeastOutside T v (n + 1)) (sym is) (
-      omega (arith, lt),
-      covers,
-      out,
-      λ q below counts untold. elim (below_or q.node n below) [
-        | inl less ↦ least q less counts untold
-        | inr here ↦ absurd (untold (at_node T q n here (found q.clock counts.0 (subst (λ k. q.clock ≤ clock_of v k) here counts.1))))
-      ],
-    )
-least_more T v n (Some a) (Some b) r (lt, covers, out, least) (node, one, most, outside, below) (inl (is, before)) =
-    subst (IsLeastOutside T v (n + 1)) (sym is) (
+least_more T v n (Some a) b r (lt, covers, out, least) (node, one, most, outside, below) (inl (is, before)) =
+    subst (λ x. IsLeastOutside T v (n + 1) (Some x)) (sym is) (
       omega (arith, node),
       (one, subst (λ k. b.clock ≤ clock_of v k) (sym node) most),
       outside,
@@ -69,8 +68,8 @@ least_more T v n (Some a) (Some b) r (lt, covers, out, least) (node, one, most, 
         | inr here ↦ not_before T v n b q (node, one, most, outside, below) here counts.0 untold
       ],
     )
-least_more T v n (Some a) (Some b) r (lt, covers, out, least) (node, one, most, outside, below) (inr (is, after)) =
-    subst (IsLeastOutside T v (n + 1)) (sym is) (
+least_more T v n (Some a) b r (lt, covers, out, least) (node, one, most, outside, below) (inr (is, after)) =
+    subst (λ x. IsLeastOutside T v (n + 1) (Some x)) (sym is) (
       omega (arith, lt),
       covers,
       out,
@@ -82,12 +81,6 @@ least_more T v n (Some a) (Some b) r (lt, covers, out, least) (node, one, most, 
         ]
       ],
     )
-
--- the node has none
-pub least_same : (T : Point → Type 0) (v : List ℕ) (n : ℕ) (a b : Option Point) → is_some b ≡ false → IsLeastOutside T v n a → IsNodeOutside T v n b → IsLeastOutside T v (n + 1) a
-least_same T v n a (Some b) none least found = absurd (let bad : true ≡ false = none in cc)
-least_same T v n None None none least found = least_more T v n None None None least found refl
-least_same T v n (Some a) None none least found = least_more T v n (Some a) None (Some a) least found refl
 
 -- ---- one node
 

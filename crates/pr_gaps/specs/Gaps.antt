@@ -88,9 +88,7 @@ IsNodeOutside T v n (Some p) =
     (p.node ≡ n) × (1 ≤ p.clock) × (p.clock ≤ clock_of v n) × (¬ T p)
     × ((c : ℕ) → 1 ≤ c → c < p.clock → T (record { clock = c; node = n }))
 
--- the lesser of two stamps, if there are any
-abbrev pub IsLesser : Option Point → Option Point → Option Point → Type 0
-IsLesser None None r = r ≡ None
-IsLesser None (Some b) r = r ≡ Some b
-IsLesser (Some a) None r = r ≡ Some a
-IsLesser (Some a) (Some b) r = ((r ≡ Some b) × Before b a) ⊎ ((r ≡ Some a) × ¬ Before b a)
+-- the lesser of two stamps; the second where there is no first
+abbrev pub IsLesser : Option Point → Point → Point → Type 0
+IsLesser None b r = r ≡ b
+IsLesser (Some a) b r = ((r ≡ b) × Before b a) ⊎ ((r ≡ a) × ¬ Before b a)

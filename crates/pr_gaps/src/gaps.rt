@@ -179,9 +179,8 @@ fn first_untold(row: &Row, own: u32, vector: &Vector) -> Option<Stamp>
 {
     let mut least: Option<Stamp> = None;
     for n in 0..NODES {
-        let found = untold(row, own, n, vector);
-        if found.is_some() {
-            least = lesser(&least, &found);
+        if let Some(found) = untold(row, own, n, vector) {
+            least = Some(lesser(&least, &found));
         }
     }
     least
@@ -228,15 +227,19 @@ fn last_precise(row: &Row, own: u32, vector: &Vector) -> Vector
     precise
 }
 
-// The lesser of the two stamps.
-fn lesser(first: &Option<Stamp>, second: &Option<Stamp>) -> Option<Stamp>
+// The lesser of the two stamps; the second where there is no first.
+fn lesser(first: &Option<Stamp>, second: &Stamp) -> Stamp
     ensures { IsLesser first.now second.now result }
 {
-    match (first, second) {
-        (Some(a), Some(b)) => Some(if b.is_before(a) { *b } else { *a }),
-        (Some(a), None) => Some(*a),
-        (None, Some(b)) => Some(*b),
-        (None, None) => None,
+    match first {
+        Some(first) => {
+            if second.is_before(first) {
+                *second
+            } else {
+                *first
+            }
+        }
+        None => *second,
     }
 }
 

@@ -43,10 +43,10 @@ impl Row {
         ensures { OnOk result (IsRowCovered self.old self.new from.now to.now) }
     {
         for n in 0..NODES {
-            let (lo, hi) = (from.at(n), to.at(n));
-            if lo < hi {
+            let (from, to) = (from.at(n), to.at(n));
+            if from < to {
                 let clocks = &mut self.clocks[n as usize];
-                clocks.add(lo + 1, hi)?;
+                clocks.add(from + 1, to)?;
             }
         }
         Ok(())

@@ -6,10 +6,10 @@ ghost use Rattle.std.specs.BTreeMap.{insert_entry};
 ghost use Rattle.std.specs.Map.{lookup};
 ghost use Rattle.std.specs.BTreeMap.Range.{IsLeBy, IsLtBy};
 ghost use Rattle.std.specs.Ordering.{is_eq, nat_cmp};
-ghost use Rattle.std.specs.Prelude.{◌≡◌, ◌≢◌, ◌≤◌, ◌<◌, ◌+◌, ◌∷◌, ◌++◌, ℕ, [], None, IfNone, IfSome, IsSome, OnErr, OnOk, Some, IsTrue, cond, drop, is_some, length, slice_index_or, zip};
+ghost use Rattle.std.specs.Prelude.{◌≡◌, ◌≢◌, ◌≤◌, ◌<◌, ◌+◌, ◌∷◌, ◌++◌, ℕ, [], None, IfNone, IfSome, IsSome, OnErr, OnOk, Some, IsTrue, cond, is_some, length, slice_index_or, zip};
 
 use pr_inval::WriteRec;
-use pr_stamps::NoMemory;
+use pr_stamps::{NoMemory, drop_front};
 use std::alloc::Global;
 use std::collections::BTreeMap;
 use std::marker::Model;
@@ -153,19 +153,6 @@ fn take_out(clocks: &mut Vec<u64>, writes: &mut Vec<WriteRec>, clock: u64)
     };
     clocks.remove(at);
     writes.remove(at);
-}
-
-// Takes so many items off the front, in time linear in the items, and none in constant time.
-fn drop_front<T: Copy + Drop>(items: &mut Vec<T>, count: usize)
-    requires { count ≤ length items.old.items }
-    ensures { items.new.items ≡ drop count items.old.items }
-{
-    if count == 0 {
-        return;
-    }
-    let left = items.len() - count;
-    items.copy_within(count.., 0);
-    items.truncate(left);
 }
 
 // Whether the clock is above the last one.

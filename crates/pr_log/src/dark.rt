@@ -98,22 +98,13 @@ fn refine_rows(
     ensures each { OnOk result ((n : ℕ) → n < 32 → ¬ (n ≡ own) → IsRowRefined (clock_of from.now n) (clock_of to.now n) target.now (sets_of rows.old.items n) (sets_of rows.new.items n)) }
 {
     for n in 0..NODES {
-        let (lo, hi) = (from.at(n), to.at(n));
-        if lo < hi && n != own {
+        let (from, to) = (from.at(n), to.at(n));
+        if from < to && n != own {
             let row = &mut rows[n as usize];
-            refine_row(row, lo, hi, target)?;
+            row.refine(from + 1, to, target)?;
         }
     }
     Ok(())
-}
-
-// At the clocks above `from`, up to `to`, the names that the target lacks are lit too.
-fn refine_row(row: &mut Segments, from: u64, to: u64, target: &NameSet) -> Result<(), NoMemory>
-    requires some { from < to }
-    requires most { to ≤ 4611686018427387903 }
-    ensures { OnOk result (IsRowRefined from to target.now row.old row.new) }
-{
-    row.refine(from + 1, to, target)
 }
 
 fn forget_rows(rows: &mut Vec<Segments>, cut: &Vector)

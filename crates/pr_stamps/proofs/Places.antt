@@ -19,6 +19,13 @@ done_more C items first d n old new within is here done rest k lt = elim (below_
       subst (λ x. C k x (get_or first k d)) (sym now) (subst (λ y. C k new y) (sym was) (subst (λ i. C i new old) (sym same) here))
 ]
 
+-- one place more that stays
+pub done_same : {A : Type 0} (C : ℕ → A → A → Type 0) (items first : List A) (d : A) (n : ℕ) → ((x : A) → C n x x) → ((k : ℕ) → k < n → C k (get_or items k d) (get_or first k d)) → ((k : ℕ) → n ≤ k → get_or items k d ≡ get_or first k d) → (k : ℕ) → k < n + 1 → C k (get_or items k d) (get_or first k d)
+done_same C items first d n here done rest k lt = elim (below_or k n lt) [
+  | inl less ↦ done k less
+  | inr same ↦ subst (λ x. C k x (get_or first k d)) (sym (rest k (omega (arith, same)))) (subst (λ i. C i (get_or first k d) (get_or first k d)) (sym same) (here (get_or first k d)))
+]
+
 pub rest_more : {A : Type 0} (items first : List A) (d : A) (n : ℕ) (new : A) → ((k : ℕ) → n ≤ k → get_or items k d ≡ get_or first k d) → (k : ℕ) → n + 1 ≤ k → get_or (set items n new) k d ≡ get_or first k d
 rest_more items first d n new rest k le =
     let other : k ≢ n = omega arith in

@@ -1,4 +1,4 @@
-use crate::{MAX, Mark, Roomy, Seq, Stamp, next_clock};
+use crate::{MAX, Mark, Roomy, Seq, Stamp, drop_front, next_clock};
 use std::test::Fail;
 
 #[test]
@@ -21,6 +21,20 @@ fn lists_take_items(rt: HostRuntime) -> Result<(), Fail> {
     roomy.push(7u64);
     roomy.push(8u64);
     assert_eq!(rt; (roomy.as_slice(), roomy.len()), ([7u64, 8].as_slice(), 2));
+    Ok(())
+}
+
+#[test]
+fn a_front_is_dropped(rt: HostRuntime) -> Result<(), Fail> {
+    let mut list = Vec::from_slice(rt.alloc(), b"abcde")
+        .ok()
+        .ok_or("no memory")?;
+    drop_front(&mut list, 0);
+    assert_eq!(rt; list.as_slice(), b"abcde".as_slice());
+    drop_front(&mut list, 3);
+    assert_eq!(rt; list.as_slice(), b"de".as_slice());
+    drop_front(&mut list, 2);
+    assert!(rt; list.is_empty());
     Ok(())
 }
 

@@ -1,7 +1,7 @@
 // A stream of frames, as it comes.
 ghost use Rattle.pr_inval.specs.declared.msg.Msg.{Msg};
 ghost use Rattle.pr_wire.specs.Feeding.{AreBytes, HasAnswered, HoldsJust, new_feed, pushed};
-ghost use Rattle.std.specs.Prelude.{◌≡◌, ◌≤◌, ◌<◌, ◌^◌, ◌↔◌, [], length, drop, IfOk, IsTrue, OnErr, OnOk};
+ghost use Rattle.std.specs.Prelude.{◌≡◌, ◌≤◌, ◌<◌, ◌^◌, ◌↔◌, [], length, IfOk, IsTrue, OnErr, OnOk};
 
 use crate::fault::Fault;
 use crate::frame::{Head, read_head};
@@ -9,7 +9,7 @@ use crate::law::{messages_are_never_bad, no_frame_begins_another};
 use crate::next::Next;
 use crate::reading::message;
 use pr_inval::Msg;
-use pr_stamps::NoMemory;
+use pr_stamps::{NoMemory, drop_front};
 use std::alloc::Global;
 use std::marker::Model;
 
@@ -133,14 +133,4 @@ fn known_bytes(bytes: &[u8])
     ensures { AreBytes bytes.now }
 {
     let _ = bytes.len();
-}
-
-// Takes so many bytes off the front.
-fn drop_front(bytes: &mut Vec<u8>, count: usize)
-    requires { count ≤ length bytes.old.items }
-    ensures { bytes.new.items ≡ drop count bytes.old.items }
-{
-    let left = bytes.len() - count;
-    bytes.copy_within(count.., 0);
-    bytes.truncate(left);
 }
