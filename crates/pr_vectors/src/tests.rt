@@ -15,8 +15,17 @@ fn vector(clocks: &[(u64, u32)]) -> Option<Vector> {
 fn cuts_and_joins(rt: HostRuntime) -> Result<(), Fail> {
     let both = vector(&[(3, 0), (3, 1)]).ok_or("stamps")?;
     let stamp = Stamp::new(2, 0).ok_or("a stamp")?;
+    let last_of_one = Stamp::new(MAX, 1).ok_or("a stamp")?;
     assert_eq!(rt; Some(both.stamp_cut(&stamp)), vector(&[(2, 0), (1, 1)]));
     assert_eq!(rt; Some(both.below(&stamp)), vector(&[(1, 0), (1, 1)]));
+    assert_eq!(rt;
+        both.below(&stamp).raised_within(&stamp, &both),
+        both.stamp_cut(&stamp)
+    );
+    assert_eq!(rt;
+        Some(Vector::zero().raised_within(&last_of_one, &both)),
+        vector(&[(3, 1)])
+    );
     let left = vector(&[(5, 0), (1, 31)]).ok_or("stamps")?;
     assert_eq!(rt; Some(both.join(&left)), vector(&[(5, 0), (3, 1), (1, 31)]));
     assert_eq!(rt; Some(both.meet(&left)), vector(&[(3, 0)]));
