@@ -137,7 +137,7 @@ impl Gaps {
         ensures told { IsOwnTold self.old self.new clock }
         ensures spent { self.new.spent ≡ self.old.spent }
     {
-        self.vector = raised(&self.vector, clock, self.node);
+        raise(&mut self.vector, clock, self.node);
     }
 
     /// The least untold point of the set by stamp; None exactly where the set is precise. For each node it takes time
@@ -160,18 +160,16 @@ impl Gaps {
     }
 }
 
-// The vector with a clock of a node joined in.
-fn raised(vector: &Vector, clock: u64, node: u32) -> Vector
+// A clock of a node is joined in.
+fn raise(vector: &mut Vector, clock: u64, node: u32)
     requires node { node < 32 }
     requires most { clock ≤ 4611686018427387903 }
-    ensures { result ≡ raised vector.now (record { clock = clock; node = node }) }
+    ensures { vector.new ≡ raised vector.old (record { clock = clock; node = node }) }
 {
-    let mut raised = *vector;
-    let _ = raised.at(0);
+    let _ = vector.at(0);
     if let Some(stamp) = Stamp::new(clock, node) {
-        raised.raise(&stamp);
+        vector.raise(&stamp);
     }
-    raised
 }
 
 fn first_untold(row: &Row, own: u32, vector: &Vector) -> Option<Stamp>
@@ -221,7 +219,7 @@ fn last_precise(row: &Row, own: u32, vector: &Vector) -> Vector
 {
     let mut precise = Vector::zero();
     for n in 0..NODES {
-        precise = raised(&precise, precise_clock(row, own, n, vector), n);
+        raise(&mut precise, precise_clock(row, own, n, vector), n);
     }
     let _ = precise.at(0);
     precise

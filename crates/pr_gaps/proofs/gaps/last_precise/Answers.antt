@@ -7,7 +7,7 @@ pub loop-n-init : goal.loop-n-init
 loop-n-init c = rw c.zero-precise.ensures (record { done = λ w lt. absurd (omega arith); rest = λ w lt le. zero_rest w lt })
 
 pub loop-n-preserved : goal.loop-n-preserved
-loop-n-preserved c = rw c.raised-precise.ensures (record {
+loop-n-preserved c = rw c.raise.ensures (record {
   done = raised_more (IsToldIn c.args.own c.args.vector.now c.args.row.now) c.args.vector.now c.loop-n.precise c.loop-n.n c.precise_clock.result (omega arith) c.precise_clock.ensures.value c.loop-n.invariant.done c.loop-n.invariant.rest;
   rest = raised_rest c.loop-n.precise c.loop-n.n c.precise_clock.result c.loop-n.invariant.rest;
 })
