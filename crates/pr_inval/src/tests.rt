@@ -107,6 +107,7 @@ fn are_targets(alloc: Global) -> Option<bool> {
         is_target(alloc, SIXTEEN, b"~", SIXTEEN)?
             && is_target(alloc, SEVENTEEN, b"~", b"-:a/,a0:~")?
             && is_target(alloc, SEVENTEEN, b"a/x", b"-:a/,a/x,a0:~")?
+            && is_target(alloc, SEVENTEEN, b"b/17", b"-:a/,a0:~")?
             && is_target(alloc, TOUCHING, b"~", JOINED)?
             && is_target(alloc, b"b", b"a/x,b", b"a/x,b")?,
     )

@@ -4,5 +4,5 @@ use Rattle.pr_inval.proofs.target.target_for.Goals as goal
 
 pub returns : goal.returns
 returns c =
-    coarse_target c.args.omitted.now c.args.dark.now c.args.sub.now c.in_ok-fine.fine c.in_ok-outside.outside c.in_ok-inside.inside c.union-2.result
-    c.in_ok-fine.ensures (omega (arith, c.count.ensures, c.if-count-le-TARGET_INTERVALS.false)) c.in_ok-outside.ensures c.in_ok-inside.ensures c.union-2.ensures
+    coarse_target c.args.omitted.now c.args.dark.now c.args.sub.now c.in_ok-fine.fine c.outside_or_dark.result
+    c.in_ok-fine.ensures (omega (arith, c.count.ensures, c.if-count-le-TARGET_INTERVALS.false)) c.outside_or_dark.ensures
