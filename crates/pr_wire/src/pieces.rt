@@ -96,7 +96,7 @@ impl<'a> Pieces<'a> {
 // The format, and room for the length of the content.
 fn put_head(chunk: &mut Chunk)
     requires { chunk.old.items ≡ [] }
-    ensures format { take 1 chunk.new.items ≡ 2 ∷ [] }
+    ensures text { chunk.new.items ≡ 2 ∷ eight 0 }
     ensures size { length chunk.new.items ≡ 9 }
 {
     put_byte(chunk, 2);
