@@ -66,7 +66,7 @@ impl<'a> Cursor<'a> {
     }
 
     // Bad says that bytes are left.
-    fn close(&self) -> Result<(), Fault>
+    fn expect_end(&self) -> Result<(), Fault>
         ensures { Gives (λ _. self.now.rest.now) result (given (length self.now.rest.now == 0) self.now.rest.now) }
     {
         if self.rest.is_empty() {
@@ -104,7 +104,7 @@ impl<'a> Cursor<'a> {
         if !is_between(&from, &to, &write.stamp) {
             return Err(Fault::Bad);
         }
-        self.close()?;
+        self.expect_end()?;
         Ok(Msg {
             time: header.time,
             stream: header.stream,
@@ -123,7 +123,7 @@ impl<'a> Cursor<'a> {
         let mut to = from;
         self.end(format, &mut to)?;
         let target = self.target(alloc)?;
-        self.close()?;
+        self.expect_end()?;
         Ok(Msg {
             time: header.time,
             stream: header.stream,
@@ -150,7 +150,7 @@ impl<'a> Cursor<'a> {
             floor: &floor,
         };
         let rows = self.rows(alloc, &bounds)?;
-        self.close()?;
+        self.expect_end()?;
         Ok(Msg {
             time: header.time,
             stream: header.stream,
@@ -176,7 +176,7 @@ impl<'a> Cursor<'a> {
             return Err(Fault::Bad);
         }
         let text = self.run(len as usize)?;
-        self.close()?;
+        self.expect_end()?;
         let bytes = Seq::copied(alloc, text)?;
         Ok(Msg {
             time: header.time,
