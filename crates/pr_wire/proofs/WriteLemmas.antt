@@ -89,14 +89,14 @@ room_filled len items lent text room is is_text =
     rw (is, is_text, drop-drop 8 1 items) (take_at all (drop (length all) items) (length items) size)
 
 -- the length of the content is written into the room that its head has
-pub frame_begins : (m : Msg) (len : ℕ) (head filled chunk left : List ℕ) → take 1 head ≡ 2 ∷ [] → length head ≡ 9 → length head ≤ length filled → head ++ content Two m ≡ filled ++ left → len ≡ (length left % 2 ^ 64 + (length filled - 9)) % 2 ^ 64
+pub frame_begins : (m : Msg) (len : ℕ) (head filled chunk left : List ℕ) → head ≡ 2 ∷ eight 0 → length head ≡ 9 → length head ≤ length filled → head ++ content Two m ≡ filled ++ left → len ≡ (length left % 2 ^ 64 + (length filled - 9)) % 2 ^ 64
     → chunk ≡ take 1 filled ++ (eight len ++ drop 9 filled) → chunk ++ left ≡ spelling Two m
 unfolding spelling
-frame_begins m len head filled chunk left is_format is_head grows is_text is_len is_chunk =
+frame_begins m len head filled chunk left is_first is_head grows is_text is_len is_chunk =
     let within : 9 ≤ length filled = omega (arith, is_head, grows) in
     let front : take 9 filled ≡ head = sym (take-append-le 9 filled left within) ∙ ap (λ (t : List ℕ). take 9 t) (sym is_text) ∙ take_at head (content Two m) 9 is_head in
     let back : drop 9 filled ++ left ≡ content Two m = sym (drop-append-le 9 filled left within) ∙ ap (λ (t : List ℕ). drop 9 t) (sym is_text) ∙ drop_at head (content Two m) 9 is_head in
-    let format : take 1 filled ≡ 2 ∷ [] = sym (take_one 8 filled) ∙ ap (λ (t : List ℕ). take 1 t) front ∙ is_format in
+    let format : take 1 filled ≡ 2 ∷ [] = sym (take_one 8 filled) ∙ ap (λ (t : List ℕ). take 1 t) (front ∙ is_first) in
     let whole : len ≡ length (content Two m) % 2 ^ 64 = omega (arith, is_len, ap length back, length-append (drop 9 filled) left, length-drop 9 filled) in
     ap (λ (t : List ℕ). t ++ left) (is_chunk ∙ ap (λ (t : List ℕ). t ++ (eight len ++ drop 9 filled)) format)
     ∙ ap (λ (t : List ℕ). 2 ∷ t) (append_assoc (eight len) (drop 9 filled) left ∙ ap (λ (t : List ℕ). eight len ++ t) back ∙ ap (λ (t : List ℕ). t ++ content Two m) (ap eight whole ∙ eight_mod (length (content Two m))))

@@ -282,11 +282,15 @@ content_at f bytes = do
   fields ← kind_at f kind.0 known.1
   Some (record { time = time.0; stream = stream.0; number = known.0; kind = fields.0 }, fields.1)
 
--- the message of this header and kind, where no bytes are left
+-- the message of this header and kind
+abbrev pub message_of : Header → Kind → Msg
+message_of header kind = record { time = header.time; stream = header.stream; number = header.number; kind = kind }
+
+-- the same, where no bytes are left
 unfoldable pub whole : Header → Option (Kind × List ℕ) → Option Msg
 whole header read = do
   fields ← read
-  given (length fields.1 == 0) (record { time = header.time; stream = header.stream; number = header.number; kind = fields.0 })
+  given (length fields.1 == 0) (message_of header fields.0)
 
 -- the message of which all the bytes are the content
 unfoldable pub message_at : Format → List ℕ → Option Msg

@@ -4,7 +4,7 @@ ghost use Rattle.pr_wire.specs.Feeding.{AreBytes, HasAnswered, HoldsJust, new_fe
 ghost use Rattle.std.specs.Prelude.{◌≡◌, ◌≤◌, ◌<◌, ◌^◌, ◌↔◌, [], length, IfOk, IsTrue, OnErr, OnOk};
 
 use crate::fault::Fault;
-use crate::frame::{Head, read_head};
+use crate::frame::{HEAD, Head, read_head};
 use crate::law::{messages_are_never_bad, no_frame_begins_another};
 use crate::next::Next;
 use crate::reading::message;
@@ -92,7 +92,7 @@ impl Feed {
             Head::Refused => return Ok(Next::Bad { at: self.given }),
             Head::Whole { format, len } => (format, len),
         };
-        match message(self.alloc, format, &bytes[9..len]) {
+        match message(self.alloc, format, &bytes[HEAD..len]) {
             Ok(msg) => {
                 self.start += len;
                 self.given = self.given.saturating_add(len as u64);

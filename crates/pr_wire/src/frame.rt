@@ -6,6 +6,9 @@ ghost use Rattle.std.specs.Prelude.{◌≡◌, ◌≤◌, length, slice_index};
 
 use crate::format::Format;
 
+/// How many bytes stand before a frame's content: one for the format, and eight for the content's length.
+pub const HEAD: usize = 9;
+
 /// A head that is not in, one that no frame has, or the head of a frame that is in, with its number of bytes.
 #[derive(Clone, Copy)]
 pub enum Head {
@@ -32,19 +35,19 @@ fn head_of(limit: u64, format: Format, bytes: &[u8]) -> Head
     requires format { slice_index bytes.now 0 ≡ format_byte format }
     ensures { HeadIs limit bytes.now result }
 {
-    if bytes.len() < 9 {
+    if bytes.len() < HEAD {
         return Head::Partial;
     }
     let len = said_length(bytes);
     if len > limit {
         return Head::Refused;
     }
-    if ((bytes.len() - 9) as u64) < len {
+    if ((bytes.len() - HEAD) as u64) < len {
         return Head::Partial;
     }
     Head::Whole {
         format,
-        len: 9 + len as usize,
+        len: HEAD + len as usize,
     }
 }
 

@@ -6,13 +6,11 @@ ghost use Rattle.pr_wire.specs.Spelling.{content, eight, spelling};
 ghost use Rattle.pr_wire.specs.declared.format.Format.{Format};
 ghost use Rattle.std.specs.Prelude.{◌≡◌, ◌≤◌, ◌<◌, ◌+◌, ◌-◌, ◌%◌, ◌^◌, [], ◌∷◌, ◌++◌, length, min, take, drop, true, false, OnErr, OnOk};
 
+use crate::frame::HEAD;
 use crate::width::known_width;
 use crate::writing::{Chunk, Left, open, put_byte, put_eight, step};
 use pr_inval::{Bytes, Msg};
 use pr_stamps::NoMemory;
-
-// The format and the length of the content.
-const HEAD: usize = 9;
 
 /// The frame of a message in format 2 (docs/WIRE.md), given piece by piece. Its rest is at first the whole frame. No
 /// call takes memory, and none makes more of the frame than a few fields.
@@ -98,7 +96,7 @@ impl<'a> Pieces<'a> {
 // The format, and room for the length of the content.
 fn put_head(chunk: &mut Chunk)
     requires { chunk.old.items ≡ [] }
-    ensures format { take 1 chunk.new.items ≡ 2 ∷ [] }
+    ensures text { chunk.new.items ≡ 2 ∷ eight 0 }
     ensures size { length chunk.new.items ≡ 9 }
 {
     put_byte(chunk, 2);
@@ -110,7 +108,7 @@ fn set_length(chunk: &mut Chunk, len: u64)
     requires { 9 ≤ length chunk.old.items }
     ensures { chunk.new.items ≡ take 1 chunk.old.items ++ (eight len ++ drop 9 chunk.old.items) }
 {
-    chunk.as_mut_slice()[1..9].copy_from_slice(&len.to_be_bytes());
+    chunk.as_mut_slice()[1..HEAD].copy_from_slice(&len.to_be_bytes());
 }
 
 // How many bytes are left, as 8 bytes hold it.

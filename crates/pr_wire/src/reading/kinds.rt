@@ -1,5 +1,5 @@
 // The kinds of message.
-ghost use Rattle.pr_wire.specs.Reading.{Gives, body_at, checkpoint_at, given, header_at, imprecise_at, is_number, message_at, precise_at, whole, write_at};
+ghost use Rattle.pr_wire.specs.Reading.{Gives, body_at, checkpoint_at, given, header_at, imprecise_at, is_number, message_at, message_of, precise_at, whole, write_at};
 ghost use Rattle.std.specs.Prelude.{◌≡◌, ◌==◌, List, length};
 
 use crate::fault::Fault;
@@ -26,6 +26,21 @@ struct Header {
     time: u64,
     stream: u32,
     number: u64,
+}
+
+impl Header {
+    // The message of this header and kind.
+    #[inline]
+    fn with(&self, kind: Kind) -> Msg
+        ensures { result ≡ message_of self.now kind }
+    {
+        Msg {
+            time: self.time,
+            stream: self.stream,
+            number: self.number,
+            kind,
+        }
+    }
 }
 
 /// The message of these bytes, which are a frame of the format without its head of 9 bytes, in time linear in them. Bad
@@ -66,7 +81,7 @@ impl<'a> Cursor<'a> {
     }
 
     // Bad says that bytes are left.
-    fn close(&self) -> Result<(), Fault>
+    fn expect_end(&self) -> Result<(), Fault>
         ensures { Gives (λ _. self.now.rest.now) result (given (length self.now.rest.now == 0) self.now.rest.now) }
     {
         if self.rest.is_empty() {
@@ -104,13 +119,8 @@ impl<'a> Cursor<'a> {
         if !is_between(&from, &to, &write.stamp) {
             return Err(Fault::Bad);
         }
-        self.close()?;
-        Ok(Msg {
-            time: header.time,
-            stream: header.stream,
-            number: header.number,
-            kind: Kind::Precise { from, to, write },
-        })
+        self.expect_end()?;
+        Ok(header.with(Kind::Precise { from, to, write }))
     }
 
     #[tactic(auto, unfolding(crate::specs::Reading::imprecise_at, crate::specs::Reading::vector_at, crate::specs::Reading::whole))]
@@ -123,13 +133,8 @@ impl<'a> Cursor<'a> {
         let mut to = from;
         self.end(format, &mut to)?;
         let target = self.target(alloc)?;
-        self.close()?;
-        Ok(Msg {
-            time: header.time,
-            stream: header.stream,
-            number: header.number,
-            kind: Kind::Imprecise { from, to, target },
-        })
+        self.expect_end()?;
+        Ok(header.with(Kind::Imprecise { from, to, target }))
     }
 
     #[tactic(auto, unfolding(crate::specs::Reading::checkpoint_at, crate::specs::Reading::whole))]
@@ -150,18 +155,13 @@ impl<'a> Cursor<'a> {
             floor: &floor,
         };
         let rows = self.rows(alloc, &bounds)?;
-        self.close()?;
-        Ok(Msg {
-            time: header.time,
-            stream: header.stream,
-            number: header.number,
-            kind: Kind::Checkpoint {
-                to,
-                target,
-                floor,
-                rows,
-            },
-        })
+        self.expect_end()?;
+        Ok(header.with(Kind::Checkpoint {
+            to,
+            target,
+            floor,
+            rows,
+        }))
     }
 
     #[tactic(auto, unfolding(crate::specs::Reading::body_at, crate::specs::Reading::whole))]
@@ -176,13 +176,8 @@ impl<'a> Cursor<'a> {
             return Err(Fault::Bad);
         }
         let text = self.run(len as usize)?;
-        self.close()?;
+        self.expect_end()?;
         let bytes = Seq::copied(alloc, text)?;
-        Ok(Msg {
-            time: header.time,
-            stream: header.stream,
-            number: header.number,
-            kind: Kind::Body { name, stamp, bytes },
-        })
+        Ok(header.with(Kind::Body { name, stamp, bytes }))
     }
 }

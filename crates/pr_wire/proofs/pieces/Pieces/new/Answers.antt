@@ -9,7 +9,7 @@ returns-clause-rest c =
     let left = left_text c.open-left.result in
     let filled = c.open-left.new.chunk.items in
     frame_begins c.args.msg.now ((c.len_of.result + (c.len.result - 9)) % 2 ^ 64) c.put_head.new.chunk.items filled c.set_length.new.chunk.items left
-    c.put_head.ensures.format
+    c.put_head.ensures.text
     c.put_head.ensures.size
     c.open-left.ensures.grows
     c.open-left.ensures.text
