@@ -53,7 +53,7 @@ pub fn ahead(
     let before = position.join(&vector.below(&write.stamp));
     let found = found_between(alloc, log, names, position, &before)?;
     if is_nothing(&found) {
-        let to = position.join(&vector.stamp_cut(&write.stamp));
+        let to = before.raised_within(&write.stamp, &vector);
         return precise(position, &to, &write, session, time);
     }
     imprecise(alloc, &found, names, position, &before, session, time)
