@@ -1,7 +1,7 @@
 // The bodies of a name.
 ghost use Rattle.pr_bodies.specs.Bodies.{body_of, renewed};
 ghost use Rattle.pr_stamps.specs.Point.{Point, is_before, is_same};
-ghost use Rattle.std.specs.Prelude.{◌≡◌, MatchOption, None, OnOk, Some, [], cond};
+ghost use Rattle.std.specs.Prelude.{◌≡◌, ◌++◌, ◌∷◌, MatchOption, None, OnOk, Some, [], cond};
 
 use pr_stamps::{Bytes, NoMemory, Stamp};
 use std::alloc::Global;
@@ -36,8 +36,7 @@ impl Row {
         ensures { OnOk result ((t : Point) → body_of self.new t ≡ cond (is_same stamp.now t) (Some bytes) (body_of self.old t)) }
     {
         self.remove(stamp);
-        self.bodies.push((*stamp, bytes))?;
-        Ok(())
+        self.push(stamp, bytes)
     }
 
     /// Holds a body, in place of those whose stamps are not greater, in time linear in the bodies.
@@ -45,6 +44,16 @@ impl Row {
         ensures { OnOk result ((t : Point) → body_of self.new t ≡ renewed stamp.now bytes t (body_of self.old t)) }
     {
         self.keep_after(stamp);
+        self.push(stamp, bytes)
+    }
+
+    // Adds a body behind the others. The first one takes room for itself alone, since mostly no other comes beside it.
+    fn push(&mut self, stamp: &Stamp, bytes: Bytes) -> Result<(), NoMemory>
+        ensures { OnOk result (self.new ≡ self.old ++ (stamp.now, bytes) ∷ []) }
+    {
+        if self.bodies.is_empty() {
+            self.bodies.reserve_exact(1)?;
+        }
         self.bodies.push((*stamp, bytes))?;
         Ok(())
     }

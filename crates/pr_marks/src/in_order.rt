@@ -3,7 +3,7 @@ ghost use Rattle.pr_marks.specs.Conflicting.{HasStamp};
 ghost use Rattle.pr_marks.specs.Row.{Rises};
 ghost use Rattle.pr_stamps.specs.Point.{Point, is_before};
 ghost use Rattle.pr_stamps.specs.declared.mark.Mark.{Mark};
-ghost use Rattle.std.specs.Prelude.{◌≡◌, ◌≤◌, ◌<◌, ℕ, false, length, slice_index_or, IsTrue, OnOk};
+ghost use Rattle.std.specs.Prelude.{◌≡◌, ◌≤◌, ◌<◌, ℕ, false, length, slice_index_or, IsTrue, OnErr, OnOk, insert};
 
 use pr_stamps::{Mark, NoMemory, Stamp};
 
@@ -19,6 +19,19 @@ pub fn put(marks: &mut Vec<Mark>, mark: &Mark) -> Result<(), NoMemory>
         return Ok(());
     }
     marks.insert(at, *mark)?;
+    Ok(())
+}
+
+// Puts the item at this place. The first one takes room for itself alone.
+pub fn put_at<T: Copy + Drop>(list: &mut Vec<T>, at: usize, item: &T) -> Result<(), NoMemory>
+    requires { at ≤ length list.old.items }
+    ensures ok { OnOk result (list.new.items ≡ insert list.old.items at item.now) }
+    ensures err { OnErr result (list.new.items ≡ list.old.items) }
+{
+    if list.is_empty() {
+        list.reserve_exact(1)?;
+    }
+    list.insert(at, *item)?;
     Ok(())
 }
 

@@ -4,7 +4,7 @@ ghost use Rattle.pr_marks.specs.Row.{Rises, above_floor, with_mark};
 ghost use Rattle.pr_stamps.specs.Marks.{later};
 ghost use Rattle.std.specs.Prelude.{◌≡◌, ◌==◌, [], length, not, IfOk, OnErr, OnOk};
 
-use crate::in_order::{place, stands_at};
+use crate::in_order::{place, put_at, stands_at};
 use crate::{Newest, conflicts};
 use pr_stamps::{Mark, NoMemory, Seq, Stamp};
 use pr_vectors::Vector;
@@ -71,7 +71,8 @@ impl Row {
         }
     }
 
-    // Keeps the mark in its place, if no mark has its stamp.
+    // Keeps the mark in its place, if no mark has its stamp. The first one takes room for itself alone, since most
+    // names have one mark.
     pub fn add(&mut self, mark: &Mark) -> Result<(), NoMemory>
         ensures newest { self.new.newest ≡ self.old.newest }
         ensures ok { OnOk result (self.new.marks ≡ with_mark self.old.marks mark.now) }
@@ -82,7 +83,7 @@ impl Row {
             return Ok(());
         }
         conflicts::list(&mut self.conflicting, &self.marks, at, mark)?;
-        self.marks.insert(at, *mark)?;
+        put_at(&mut self.marks, at, mark)?;
         Ok(())
     }
 

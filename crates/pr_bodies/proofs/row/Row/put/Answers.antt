@@ -1,5 +1,8 @@
+use Rattle.std.proofs.lemmas.Result.{on_ok_weaker}
 use Rattle.pr_bodies.proofs.Rows.{put_behind}
 use Rattle.pr_bodies.proofs.row.Row.put.Goals as goal
 
 pub returns : goal.returns
-returns c t = put_behind c.args.self.now c.self.inside.bodies.items _ c.args.stamp.now t c.args.bytes (rw c.self.view_is (c.remove.ensures t)) c.in_ok-push.ensures.items
+returns c =
+    on_ok_weaker c.push.result (λ is t. put_behind c.args.self.now c.remove.new.self _ c.args.stamp.now t c.args.bytes (c.remove.ensures t) is)
+    c.push.ensures

@@ -11,9 +11,9 @@ returns-then-stands_at-clause-ok c =
 pub invariant_of-self-2 : goal.invariant_of-self-2
 invariant_of-self-2 c =
     let is : with_mark c.self.inside.marks.items c.args.mark.now ≡ insert c.self.inside.marks.items c.place-at.result c.args.mark.now = placed_in _ _ _ c.args.mark.now _ c.deref.ensures.value c.deref-2.ensures.value c.place-at.ensures.within c.place-at.ensures.before c.place-at.ensures.after (c.stands_at.ensures.not_here c.if-stands_at.false) in
-    added_in c.self.inside.marks.items c.self.inside.conflicting.items _ _ _ c.insert.new.self.items c.list.new.listed.items c.args.mark.now c.place-at.result c.deref.ensures.value c.deref-2.ensures.value c.deref-3.ensures.value (c.in_ok-insert.ensures.items ∙ sym is) c.self.invariant.0 c.self.invariant.1 c.list.ensures.rise c.place-at.ensures.within c.place-at.ensures.before c.place-at.ensures.after (c.stands_at.ensures.not_here c.if-stands_at.false) c.list.ensures.stay c.in_ok-list.ensures.this c.in_ok-list.ensures.behind
+    added_in c.self.inside.marks.items c.self.inside.conflicting.items _ _ _ c.put_at.new.list.items c.list.new.listed.items c.args.mark.now c.place-at.result c.deref.ensures.value c.deref-2.ensures.value c.deref-3.ensures.value (c.in_ok-put_at.ensures.ok ∙ sym is) c.self.invariant.0 c.self.invariant.1 c.list.ensures.rise c.place-at.ensures.within c.place-at.ensures.before c.place-at.ensures.after (c.stands_at.ensures.not_here c.if-stands_at.false) c.list.ensures.stay c.in_ok-list.ensures.this c.in_ok-list.ensures.behind
 
 pub returns-clause-ok : goal.returns-clause-ok
 returns-clause-ok c =
     let is : with_mark c.self.inside.marks.items c.args.mark.now ≡ insert c.self.inside.marks.items c.place-at.result c.args.mark.now = placed_in _ _ _ c.args.mark.now _ c.deref.ensures.value c.deref-2.ensures.value c.place-at.ensures.within c.place-at.ensures.before c.place-at.ensures.after (c.stands_at.ensures.not_here c.if-stands_at.false) in
-    rw (← c.self.view_is) (c.in_ok-insert.ensures.items ∙ sym is)
+    rw (← c.self.view_is) (c.in_ok-put_at.ensures.ok ∙ sym is)
