@@ -1,6 +1,8 @@
 // Does what its words ask for, from standard input to standard output.
 #![tactic(auto)]
 
+ghost use Rattle.std.specs.Prelude.{◌≡◌, ◌⊎◌, IfErr};
+
 use pr_crew::FreeGate;
 use pr_ports::{ReaderSource, WriterSink};
 use pr_top::{Status, practi, tell};
@@ -44,7 +46,9 @@ fn refused(rt: &HostRuntime) -> ExitCode {
 }
 
 // Writes what was gathered. A call that did all is no success where that fails.
-fn flushed<W: Write>(status: Status, to: &mut W) -> Status {
+fn flushed<W: Write>(status: Status, to: &mut W) -> Status
+    ensures { (result ≡ status) ⊎ ((status ≡ Status.Ok) × (result ≡ Status.WriteFault)) }
+{
     match (to.flush(), status) {
         (Err(_), Status::Ok) => Status::WriteFault,
         (_, status) => status,
@@ -52,7 +56,9 @@ fn flushed<W: Write>(status: Status, to: &mut W) -> Status {
 }
 
 // The words behind the program's own name. Words that are no text are not accepted.
-fn words(rt: &HostRuntime) -> Result<Vec<String>, Status> {
+fn words(rt: &HostRuntime) -> Result<Vec<String>, Status>
+    ensures { IfErr result (λ status. (status ≡ Status.NoMemory) ⊎ (status ≡ Status.Usage)) }
+{
     match env::args(rt) {
         Ok(words) => words.skip(1).collect(rt.alloc()).map_err(no_memory),
         Err(error) if error.kind() == ErrorKind::OutOfMemory => Err(Status::NoMemory),
@@ -60,6 +66,8 @@ fn words(rt: &HostRuntime) -> Result<Vec<String>, Status> {
     }
 }
 
-fn no_memory(_error: AllocError) -> Status {
+fn no_memory(_error: AllocError) -> Status
+    ensures { result ≡ Status.NoMemory }
+{
     Status::NoMemory
 }
