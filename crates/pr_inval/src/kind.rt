@@ -88,7 +88,7 @@ impl Kind {
 fn copied_rows(alloc: Global, rows: &[Row]) -> Result<Seq<Row>, NoMemory>
     ensures { IfOk result (λ copies. copies ≡ rows.now) }
 {
-    let mut copies = Seq::new(alloc);
+    let mut copies = Seq::with_room(alloc, rows.len())?;
     for row in rows {
         copies.push(row.copy(alloc)?)?;
     }

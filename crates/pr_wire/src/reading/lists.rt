@@ -53,6 +53,12 @@ fn can_follow_row(rows: &Seq<Row>, row: &Row) -> bool
     rows[rows.len() - 1].name.is_below(&row.name)
 }
 
+// For how many of these items room is taken before one is read: a short list, as nearly all are, takes no more than it
+// holds, and one that says more than it has takes little.
+fn room_for(count: u64) -> usize {
+    count.min(16) as usize
+}
+
 impl<'a> Cursor<'a> {
     /// A set of names, as a target.
     #[tactic(auto, unfolding(crate::specs::Reading::list_at))]
@@ -66,7 +72,7 @@ impl<'a> Cursor<'a> {
     fn spans(&mut self, alloc: Global, count: u64) -> Result<NameSet, Fault>
         ensures { Gives (λ x. (x, self.new.rest.now)) result (items_at span_at is_behind count [] self.old.rest.now) }
     {
-        let mut set = NameSet::empty(alloc);
+        let mut set = NameSet::with_room(alloc, room_for(count))?;
         for _ in 0..count {
             let span = self.span()?;
             if !set.can_push(&span) {
@@ -107,7 +113,7 @@ impl<'a> Cursor<'a> {
     ) -> Result<Seq<Mark>, Fault>
         ensures { Gives (λ x. (x, self.new.rest.now)) result (items_at (known_mark_at bounds.now.floor.now bounds.now.to.now newest.now) (last_before mark_before) count [] self.old.rest.now) }
     {
-        let mut marks = Seq::new(alloc);
+        let mut marks = Seq::with_room(alloc, room_for(count))?;
         for _ in 0..count {
             let Mark { stamp, prev } = self.known_mark(bounds, newest)?;
             let mark = Mark { stamp, prev };
@@ -150,7 +156,7 @@ impl<'a> Cursor<'a> {
     fn some_rows(&mut self, alloc: Global, bounds: &Bounds, count: u64) -> Result<Seq<Row>, Fault>
         ensures { Gives (λ x. (x, self.new.rest.now)) result (items_at (row_at bounds.now.format bounds.now.floor.now bounds.now.to.now bounds.now.target.now) (last_before row_before) count [] self.old.rest.now) }
     {
-        let mut rows = Seq::new(alloc);
+        let mut rows = Seq::with_room(alloc, room_for(count))?;
         for _ in 0..count {
             let row = self.row(alloc, bounds)?;
             if !can_follow_row(&rows, &row) {

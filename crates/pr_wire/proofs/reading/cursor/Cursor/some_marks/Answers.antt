@@ -7,7 +7,7 @@ use Rattle.pr_wire.proofs.reading.cursor.Cursor.some_marks.Goals as goal
 pub returns-in_err-stamp : goal.returns-in_err-stamp
 returns-in_err-stamp c =
     let item = known_mark_at c.args.bounds.now.floor.now c.args.bounds.now.to.now c.args.newest.now in
-    let p = err_from_is_err_and c.from_residual.result c.from_residual.ensures.1 in
+    let p = err_from_is_err_and c.from_residual-in_err-stamp.result c.from_residual-in_err-stamp.ensures.1 in
     rw (p.1, p.2)
     (items_fail c.in_err-stamp.field-0.0 item (last_before mark_before) c.args.count c.loop.counter c.loop.marks c.loop.self.rest.now (items_at item (last_before mark_before) c.args.count [] c.args.self.now.rest.now) c.loop-test.true c.in_err-stamp.ensures c.loop.invariant)
 

@@ -7,7 +7,7 @@ use Rattle.pr_wire.proofs.reading.cursor.Cursor.some_rows.Goals as goal
 pub returns-in_err-row : goal.returns-in_err-row
 returns-in_err-row c =
     let item = row_at c.args.bounds.now.format c.args.bounds.now.floor.now c.args.bounds.now.to.now c.args.bounds.now.target.now in
-    let p = err_from_is_err_and c.from_residual.result c.from_residual.ensures.1 in
+    let p = err_from_is_err_and c.from_residual-in_err-row.result c.from_residual-in_err-row.ensures.1 in
     rw (p.1, p.2)
     (items_fail c.in_err-row.field-0.0 item (last_before row_before) c.args.count c.loop.counter c.loop.rows c.loop.self.rest.now (items_at item (last_before row_before) c.args.count [] c.args.self.now.rest.now) c.loop-test.true c.in_err-row.ensures c.loop.invariant)
 

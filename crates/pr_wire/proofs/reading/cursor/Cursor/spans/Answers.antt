@@ -7,7 +7,7 @@ use Rattle.pr_wire.proofs.reading.cursor.Cursor.spans.Goals as goal
 
 pub returns-in_err-span : goal.returns-in_err-span
 returns-in_err-span c =
-    let p = err_from_is_err_and c.from_residual.result c.from_residual.ensures.1 in
+    let p = err_from_is_err_and c.from_residual-in_err-span.result c.from_residual-in_err-span.ensures.1 in
     rw (p.1, p.2)
     (items_fail c.in_err-span.field-0.0 span_at is_behind c.args.count c.loop.counter c.loop.set c.loop.self.rest.now (items_at span_at is_behind c.args.count [] c.args.self.now.rest.now) c.loop-test.true c.in_err-span.ensures c.loop.invariant)
 
