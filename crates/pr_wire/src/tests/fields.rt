@@ -89,3 +89,16 @@ fn fields_are_appended_and_read(rt: HostRuntime) -> Result<(), Fail> {
     assert_eq!(rt; are_read(rt.alloc(), &FIELDS, &name, &stamp), Ok(true));
     Ok(())
 }
+
+// A set that says that it has the most intervals, and has one.
+const FALSE_COUNT: [u8; 14] = [255, 255, 255, 255, 255, 255, 255, 255, 2, 98, 47, 2, 98, 48];
+
+fn is_refused(alloc: Global, bytes: &[u8]) -> bool {
+    let mut cursor = Cursor { rest: bytes };
+    matches!(cursor.target(alloc), Err(Fault::Bad))
+}
+
+#[test]
+fn a_count_is_not_believed_before_its_items_are_read(rt: HostRuntime) {
+    assert!(rt; is_refused(rt.alloc(), &FALSE_COUNT));
+}
