@@ -1,5 +1,6 @@
-use crate::{Vector, vectors_cover_points};
+use crate::{PackedVector, Vector, vectors_cover_points};
 use pr_stamps::{MAX, Stamp};
+use std::alloc::Global;
 use std::test::Fail;
 
 fn vector(clocks: &[(u64, u32)]) -> Option<Vector> {
@@ -37,5 +38,25 @@ fn cuts_and_joins(rt: HostRuntime) -> Result<(), Fail> {
         (3, MAX, MAX, 0)
     );
     vectors_cover_points();
+    Ok(())
+}
+
+fn is_packed(alloc: Global, vector: &Vector) -> Option<bool> {
+    let packed = PackedVector::of(alloc, vector).ok()?;
+    let copy = packed.copy(alloc).ok()?;
+    Some(is_same(&packed, vector) && is_same(&copy, vector))
+}
+
+fn is_same(packed: &PackedVector, vector: &Vector) -> bool {
+    packed.get() == *vector && packed.le(vector) && packed.at(31) == vector.at(31)
+}
+
+#[test]
+fn what_is_packed_is_the_vector(rt: HostRuntime) -> Result<(), Fail> {
+    let middle = vector(&[(3, 0), (2, 5)]).ok_or("stamps")?;
+    let last = vector(&[(MAX, 31)]).ok_or("a stamp")?;
+    for vector in [Vector::zero(), middle, last] {
+        assert!(rt; is_packed(rt.alloc(), &vector).unwrap_or(false));
+    }
     Ok(())
 }
