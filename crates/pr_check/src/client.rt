@@ -14,7 +14,7 @@ use crate::part::{number, text};
 use crate::refusal::Refusal;
 use crate::stamp::{prev, stamp};
 use crate::told::Told;
-use crate::vector::vector;
+use crate::vector::packed;
 use pr_inval::WriteRec;
 use pr_script::{Bytes, Decl, Kind, name};
 use pr_stamps::Seq;
@@ -36,39 +36,46 @@ pub fn write(alloc: Global, decls: &[Decl], line: &[u8]) -> Result<Event, Refusa
     ensures tellable { IfOk result (IsTellable decls.now) }
 {
     let body = text(alloc, field_at(3, line))?;
-    wrote_with(decls, false, body, line, behind(4, line)).ok_or(Refusal::Unread)
+    wrote_with(alloc, decls, false, body, line, behind(4, line))
 }
 
 #[tactic(auto, unfolding(crate::specs::Events::delete_of))]
-pub fn delete(alloc: Global, decls: &[Decl], line: &[u8]) -> Option<Event>
+pub fn delete(alloc: Global, decls: &[Decl], line: &[u8]) -> Result<Event, Refusal>
     requires { AreLabels decls.now }
-    ensures reads { result ≡ delete_of decls.now line.now }
-    ensures tellable { IfSome result (IsTellable decls.now) }
+    ensures reads { Gives result (delete_of decls.now line.now) }
+    ensures tellable { IfOk result (IsTellable decls.now) }
 {
-    wrote_with(decls, true, Seq::new(alloc), line, behind(3, line))
+    wrote_with(alloc, decls, true, Seq::new(alloc), line, behind(3, line))
 }
 
 // A write with this body, where the fields from its stamp on are the rest.
 #[tactic(auto, unfolding(crate::specs::Events::wrote_with))]
-fn wrote_with(decls: &[Decl], gone: bool, body: Bytes, line: &[u8], rest: &[u8]) -> Option<Event>
+fn wrote_with(
+    alloc: Global,
+    decls: &[Decl],
+    gone: bool,
+    body: Bytes,
+    line: &[u8],
+    rest: &[u8],
+) -> Result<Event, Refusal>
     requires labels { AreLabels decls.now }
     requires bytes { IsBytes body }
-    ensures reads { result ≡ wrote_with decls.now gone body line.now rest.now }
-    ensures tellable { IfSome result (IsTellable decls.now) }
+    ensures reads { Gives result (wrote_with decls.now gone body line.now rest.now) }
+    ensures tellable { IfOk result (IsTellable decls.now) }
 {
-    let client = client_at(decls, line)?;
-    let name = name(field_at(2, line))?;
+    let client = client_at(decls, line).ok_or(Refusal::Unread)?;
+    let name = name(field_at(2, line)).ok_or(Refusal::Unread)?;
     let _ = name.bytes();
-    let stamp = stamp(decls, field_at(0, rest))?;
-    let prev = prev(decls, field_at(2, rest))?;
-    let after = vector(decls, field_at(4, rest))?;
+    let stamp = stamp(decls, field_at(0, rest)).ok_or(Refusal::Unread)?;
+    let prev = prev(decls, field_at(2, rest)).ok_or(Refusal::Unread)?;
+    let after = packed(alloc, decls, field_at(4, rest))?;
     let write = WriteRec {
         name,
         stamp,
         prev,
         gone,
     };
-    Some(Event::Wrote {
+    Ok(Event::Wrote {
         client,
         write,
         body,
@@ -86,7 +93,7 @@ pub fn answered(alloc: Global, decls: &[Decl], line: &[u8]) -> Result<Event, Ref
     let name = name(field_at(2, line)).ok_or(Refusal::Unread)?;
     let _ = name.bytes();
     let reply = reply(alloc, decls, field_at(3, line), behind(3, line))?;
-    let at = vector(decls, field_at(width_of(&reply) + 4, line)).ok_or(Refusal::Unread)?;
+    let at = packed(alloc, decls, field_at(width_of(&reply) + 4, line))?;
     Ok(Event::Answered {
         client,
         name,
@@ -96,15 +103,15 @@ pub fn answered(alloc: Global, decls: &[Decl], line: &[u8]) -> Result<Event, Ref
 }
 
 #[tactic(auto, unfolding(crate::specs::Events::behind_of))]
-pub fn refused(decls: &[Decl], line: &[u8]) -> Option<Event>
+pub fn refused(alloc: Global, decls: &[Decl], line: &[u8]) -> Result<Event, Refusal>
     requires { AreLabels decls.now }
-    ensures reads { result ≡ behind_of decls.now line.now }
-    ensures tellable { IfSome result (IsTellable decls.now) }
+    ensures reads { Gives result (behind_of decls.now line.now) }
+    ensures tellable { IfOk result (IsTellable decls.now) }
 {
-    let client = client_at(decls, line)?;
-    let needs = vector(decls, field_at(3, line))?;
-    let has = vector(decls, field_at(5, line))?;
-    Some(Event::Behind { client, needs, has })
+    let client = client_at(decls, line).ok_or(Refusal::Unread)?;
+    let needs = packed(alloc, decls, field_at(3, line))?;
+    let has = packed(alloc, decls, field_at(5, line))?;
+    Ok(Event::Behind { client, needs, has })
 }
 
 #[tactic(auto, unfolding(crate::specs::Events::moved_of))]

@@ -36,7 +36,7 @@ fn stream_told(alloc: Global, decls: &[Decl], word: &[u8], line: &[u8]) -> Resul
     ensures told { IfOk result (λ told. IsTellableAt decls.now told.node told.event) }
 {
     if word == b"attach".as_slice() {
-        let event = attached(decls, line).ok_or(Refusal::Unread)?;
+        let event = attached(alloc, decls, line)?;
         return Ok(Told { node: 0, event });
     }
     if word == b"idle".as_slice() {
@@ -44,7 +44,7 @@ fn stream_told(alloc: Global, decls: &[Decl], word: &[u8], line: &[u8]) -> Resul
         return Ok(Told { node: 0, event });
     }
     if word == b"stale".as_slice() {
-        let event = stale(decls, line).ok_or(Refusal::Unread)?;
+        let event = stale(alloc, decls, line)?;
         return Ok(Told { node: 0, event });
     }
     if word == b"down".as_slice() {
@@ -66,11 +66,11 @@ fn message_told(alloc: Global, decls: &[Decl], word: &[u8], line: &[u8]) -> Resu
         return Ok(Told { node: 0, event });
     }
     if word == b"accept".as_slice() {
-        let event = accepted(alloc, decls, line).ok_or(Refusal::Unread)?;
+        let event = accepted(alloc, decls, line)?;
         return Ok(Told { node: 0, event });
     }
     if word == b"gap".as_slice() {
-        let event = gapped(alloc, decls, line).ok_or(Refusal::Unread)?;
+        let event = gapped(alloc, decls, line)?;
         return Ok(Told { node: 0, event });
     }
     if word == b"missing".as_slice() {
@@ -92,7 +92,7 @@ fn client_told(alloc: Global, decls: &[Decl], word: &[u8], line: &[u8]) -> Resul
         return Ok(Told { node: 0, event });
     }
     if word == b"delete".as_slice() {
-        let event = delete(alloc, decls, line).ok_or(Refusal::Unread)?;
+        let event = delete(alloc, decls, line)?;
         return Ok(Told { node: 0, event });
     }
     if word == b"read".as_slice() {
@@ -100,7 +100,7 @@ fn client_told(alloc: Global, decls: &[Decl], word: &[u8], line: &[u8]) -> Resul
         return Ok(Told { node: 0, event });
     }
     if word == b"behind".as_slice() {
-        let event = refused(decls, line).ok_or(Refusal::Unread)?;
+        let event = refused(alloc, decls, line)?;
         return Ok(Told { node: 0, event });
     }
     if word == b"move".as_slice() {
@@ -127,7 +127,7 @@ fn at_node(alloc: Global, decls: &[Decl], word: &[u8], line: &[u8]) -> Result<Ev
     ensures tellable { IfOk result (IsTellable decls.now) }
 {
     if word == b"cut".as_slice() {
-        return cut(decls, line).ok_or(Refusal::Unread);
+        return cut(alloc, decls, line);
     }
     if word == b"drop".as_slice() {
         return dropped(line).ok_or(Refusal::Unread);

@@ -54,11 +54,9 @@ fn said_if_printed(
     ensures { IfOk result (λ said. said ≡ said_if decls.now.list told.node told.event line.now) }
 {
     let Told { node, event } = told;
-    if is_printed(alloc, decls, node, &event, line)? {
-        Ok(Some(said_of(node, event)))
-    } else {
-        Ok(None)
-    }
+    let is_line = is_printed(alloc, decls, node, &event, line);
+    let said = said_of(node, event);
+    if is_line? { Ok(Some(said)) } else { Ok(None) }
 }
 
 /// Whether the line, without its end, is that of the event at the node.

@@ -5,14 +5,14 @@ ghost use Rattle.pr_script.specs.Labels.{AreLabels};
 ghost use Rattle.pr_story.specs.Counts.{HasKind};
 ghost use Rattle.pr_story.specs.Ranges.{IsKind};
 ghost use Rattle.pr_text.specs.Numbers.{nodes_of};
-ghost use Rattle.std.specs.Prelude.{◌≡◌, IfOk, IfSome};
+ghost use Rattle.std.specs.Prelude.{IfOk};
 
 use crate::field::field_at;
 use crate::part::{target, text};
 use crate::refusal::Refusal;
 use crate::row::rows;
 use crate::stamp::{prev, stamp};
-use crate::vector::vector;
+use crate::vector::packed;
 use pr_inval::{Kind, WriteRec};
 use pr_script::{Decl, name};
 use std::alloc::Global;
@@ -27,10 +27,10 @@ pub fn kind(alloc: Global, decls: &[Decl], rest: &[u8]) -> Result<Kind, Refusal>
 {
     let word = field_at(0, rest);
     if word == b"precise".as_slice() {
-        return precise(decls, false, rest).ok_or(Refusal::Unread);
+        return precise(alloc, decls, false, rest);
     }
     if word == b"gone".as_slice() {
-        return precise(decls, true, rest).ok_or(Refusal::Unread);
+        return precise(alloc, decls, true, rest);
     }
     if word == b"imprecise".as_slice() {
         return imprecise(alloc, decls, rest);
@@ -45,25 +45,25 @@ pub fn kind(alloc: Global, decls: &[Decl], rest: &[u8]) -> Result<Kind, Refusal>
 }
 
 #[tactic(auto, unfolding(crate::specs::Events::precise_of))]
-fn precise(decls: &[Decl], gone: bool, rest: &[u8]) -> Option<Kind>
+fn precise(alloc: Global, decls: &[Decl], gone: bool, rest: &[u8]) -> Result<Kind, Refusal>
     requires { AreLabels decls.now }
-    ensures reads { result ≡ precise_of decls.now gone rest.now }
-    ensures range { IfSome result IsKind }
-    ensures declared { IfSome result (HasKind (nodes_of decls.now)) }
+    ensures reads { Gives result (precise_of decls.now gone rest.now) }
+    ensures range { IfOk result IsKind }
+    ensures declared { IfOk result (HasKind (nodes_of decls.now)) }
 {
-    let name = name(field_at(1, rest))?;
+    let name = name(field_at(1, rest)).ok_or(Refusal::Unread)?;
     let _ = name.bytes();
-    let stamp = stamp(decls, field_at(2, rest))?;
-    let prev = prev(decls, field_at(4, rest))?;
-    let from = vector(decls, field_at(6, rest))?;
-    let to = vector(decls, field_at(8, rest))?;
+    let stamp = stamp(decls, field_at(2, rest)).ok_or(Refusal::Unread)?;
+    let prev = prev(decls, field_at(4, rest)).ok_or(Refusal::Unread)?;
+    let from = packed(alloc, decls, field_at(6, rest))?;
+    let to = packed(alloc, decls, field_at(8, rest))?;
     let write = WriteRec {
         name,
         stamp,
         prev,
         gone,
     };
-    Some(Kind::Precise { from, to, write })
+    Ok(Kind::Precise { from, to, write })
 }
 
 #[tactic(auto, unfolding(crate::specs::Events::imprecise_of))]
@@ -74,8 +74,8 @@ fn imprecise(alloc: Global, decls: &[Decl], rest: &[u8]) -> Result<Kind, Refusal
     ensures declared { IfOk result (HasKind (nodes_of decls.now)) }
 {
     let target = target(alloc, field_at(1, rest))?;
-    let from = vector(decls, field_at(3, rest)).ok_or(Refusal::Unread)?;
-    let to = vector(decls, field_at(5, rest)).ok_or(Refusal::Unread)?;
+    let from = packed(alloc, decls, field_at(3, rest))?;
+    let to = packed(alloc, decls, field_at(5, rest))?;
     Ok(Kind::Imprecise { from, to, target })
 }
 
@@ -87,8 +87,8 @@ fn checkpoint(alloc: Global, decls: &[Decl], rest: &[u8]) -> Result<Kind, Refusa
     ensures declared { IfOk result (HasKind (nodes_of decls.now)) }
 {
     let target = target(alloc, field_at(1, rest))?;
-    let to = vector(decls, field_at(3, rest)).ok_or(Refusal::Unread)?;
-    let floor = vector(decls, field_at(5, rest)).ok_or(Refusal::Unread)?;
+    let to = packed(alloc, decls, field_at(3, rest))?;
+    let floor = packed(alloc, decls, field_at(5, rest))?;
     let rows = rows(alloc, decls, field_at(7, rest))?;
     Ok(Kind::Checkpoint {
         to,

@@ -12,7 +12,7 @@ use crate::answer::found;
 use crate::field::{behind, field_at};
 use crate::part::number;
 use crate::refusal::Refusal;
-use crate::vector::{vector, vectors};
+use crate::vector::{packed, vectors};
 use pr_script::{Decl, Kind, name};
 use pr_story::Event;
 use std::alloc::Global;
@@ -27,13 +27,13 @@ pub fn node_at(decls: &[Decl], line: &[u8]) -> Option<u32>
 }
 
 #[tactic(auto, unfolding(crate::specs::Events::cut_of))]
-pub fn cut(decls: &[Decl], line: &[u8]) -> Option<Event>
+pub fn cut(alloc: Global, decls: &[Decl], line: &[u8]) -> Result<Event, Refusal>
     requires { AreLabels decls.now }
-    ensures reads { result ≡ cut_of decls.now line.now }
-    ensures tellable { IfSome result (IsTellable decls.now) }
+    ensures reads { Gives result (cut_of decls.now line.now) }
+    ensures tellable { IfOk result (IsTellable decls.now) }
 {
-    let at = vector(decls, field_at(3, line))?;
-    Some(Event::Cut { at })
+    let at = packed(alloc, decls, field_at(3, line))?;
+    Ok(Event::Cut { at })
 }
 
 #[tactic(auto, unfolding(crate::specs::Events::dropped_of))]
@@ -64,9 +64,9 @@ pub fn state(alloc: Global, decls: &[Decl], line: &[u8]) -> Result<Event, Refusa
     ensures reads { Gives result (state_of decls.now line.now) }
     ensures tellable { IfOk result (IsTellable decls.now) }
 {
-    let at = vector(decls, field_at(3, line)).ok_or(Refusal::Unread)?;
-    let cut = vector(decls, field_at(5, line)).ok_or(Refusal::Unread)?;
-    let floor = vector(decls, field_at(7, line)).ok_or(Refusal::Unread)?;
+    let at = packed(alloc, decls, field_at(3, line))?;
+    let cut = packed(alloc, decls, field_at(5, line))?;
+    let floor = packed(alloc, decls, field_at(7, line))?;
     let precise = vectors(alloc, decls, behind(9, line))?;
     if precise.is_empty() {
         return Err(Refusal::Unread);

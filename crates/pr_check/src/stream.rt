@@ -13,12 +13,13 @@ use crate::field::{behind, field_at};
 use crate::message;
 use crate::part::number;
 use crate::refusal::Refusal;
-use crate::vector::{no_clocks, vector};
+use crate::vector::{no_clocks, packed, vector};
 use pr_inval::{Kind, Msg};
 use pr_script::{Decl, Kind as Of, number_within};
 use pr_sets::NameSet;
+use pr_stamps::NoMemory;
 use pr_story::{Cause, Event};
-use pr_vectors::Vector;
+use pr_vectors::{PackedVector, Vector};
 use std::alloc::Global;
 
 /// The stream that the line names.
@@ -37,14 +38,14 @@ fn count_at(line: &[u8]) -> Option<u64>
 }
 
 #[tactic(auto, unfolding(crate::specs::Events::attached_of))]
-pub fn attached(decls: &[Decl], line: &[u8]) -> Option<Event>
+pub fn attached(alloc: Global, decls: &[Decl], line: &[u8]) -> Result<Event, Refusal>
     requires { AreLabels decls.now }
-    ensures reads { result ≡ attached_of decls.now line.now }
-    ensures tellable { IfSome result (IsTellable decls.now) }
+    ensures reads { Gives result (attached_of decls.now line.now) }
+    ensures tellable { IfOk result (IsTellable decls.now) }
 {
-    let stream = stream_at(decls, line)?;
-    let at = vector(decls, field_at(3, line))?;
-    Some(Event::Attached { stream, at })
+    let stream = stream_at(decls, line).ok_or(Refusal::Unread)?;
+    let at = packed(alloc, decls, field_at(3, line))?;
+    Ok(Event::Attached { stream, at })
 }
 
 #[tactic(auto, unfolding(crate::specs::Events::sent_of))]
@@ -83,54 +84,55 @@ pub fn idle(decls: &[Decl], line: &[u8]) -> Option<Event>
 }
 
 #[tactic(auto, unfolding(crate::specs::Events::stale_of))]
-pub fn stale(decls: &[Decl], line: &[u8]) -> Option<Event>
+pub fn stale(alloc: Global, decls: &[Decl], line: &[u8]) -> Result<Event, Refusal>
     requires { AreLabels decls.now }
-    ensures reads { result ≡ stale_of decls.now line.now }
-    ensures tellable { IfSome result (IsTellable decls.now) }
+    ensures reads { Gives result (stale_of decls.now line.now) }
+    ensures tellable { IfOk result (IsTellable decls.now) }
 {
-    let stream = stream_at(decls, line)?;
-    let cut = vector(decls, field_at(3, line))?;
-    Some(Event::Stale { stream, cut })
+    let stream = stream_at(decls, line).ok_or(Refusal::Unread)?;
+    let cut = packed(alloc, decls, field_at(3, line))?;
+    Ok(Event::Stale { stream, cut })
 }
 
 // A message that tells nothing from here on.
-fn empty_from(alloc: Global, from: Vector) -> Kind
-    ensures value { result ≡ empty_from from }
-    ensures range { IsKind result }
-    ensures declared { (nodes : ℕ) → HasVector nodes from → HasKind nodes result }
+fn empty_from(alloc: Global, from: &Vector) -> Result<Kind, NoMemory>
+    ensures value { IfOk result (λ kind. kind ≡ empty_from from.now) }
+    ensures range { IfOk result IsKind }
+    ensures declared { (nodes : ℕ) → HasVector nodes from.now → IfOk result (HasKind nodes) }
 {
+    let from = PackedVector::of(alloc, from)?;
     let _ = from.at(0);
-    let to = no_clocks();
+    let to = PackedVector::of(alloc, &no_clocks())?;
     let target = NameSet::empty(alloc);
     let _ = target.parts();
-    Kind::Imprecise { from, to, target }
+    Ok(Kind::Imprecise { from, to, target })
 }
 
 #[tactic(auto, unfolding(crate::specs::Events::accepted_of))]
-pub fn accepted(alloc: Global, decls: &[Decl], line: &[u8]) -> Option<Event>
+pub fn accepted(alloc: Global, decls: &[Decl], line: &[u8]) -> Result<Event, Refusal>
     requires { AreLabels decls.now }
-    ensures reads { result ≡ accepted_of decls.now line.now }
-    ensures tellable { IfSome result (IsTellable decls.now) }
+    ensures reads { Gives result (accepted_of decls.now line.now) }
+    ensures tellable { IfOk result (IsTellable decls.now) }
 {
-    let stream = stream_at(decls, line)?;
-    let number = count_at(line)?;
-    let at = vector(decls, field_at(4, line))?;
-    let msg = msg_with(stream, number, empty_from(alloc, no_clocks()));
-    Some(Event::Accepted { msg, at })
+    let stream = stream_at(decls, line).ok_or(Refusal::Unread)?;
+    let number = count_at(line).ok_or(Refusal::Unread)?;
+    let at = packed(alloc, decls, field_at(4, line))?;
+    let msg = msg_with(stream, number, empty_from(alloc, &no_clocks())?);
+    Ok(Event::Accepted { msg, at })
 }
 
 #[tactic(auto, unfolding(crate::specs::Events::gapped_of))]
-pub fn gapped(alloc: Global, decls: &[Decl], line: &[u8]) -> Option<Event>
+pub fn gapped(alloc: Global, decls: &[Decl], line: &[u8]) -> Result<Event, Refusal>
     requires { AreLabels decls.now }
-    ensures reads { result ≡ gapped_of decls.now line.now }
-    ensures tellable { IfSome result (IsTellable decls.now) }
+    ensures reads { Gives result (gapped_of decls.now line.now) }
+    ensures tellable { IfOk result (IsTellable decls.now) }
 {
-    let stream = stream_at(decls, line)?;
-    let number = count_at(line)?;
-    let from = vector(decls, field_at(4, line))?;
-    let has = vector(decls, field_at(6, line))?;
-    let msg = msg_with(stream, number, empty_from(alloc, from));
-    Some(Event::Gapped { msg, has })
+    let stream = stream_at(decls, line).ok_or(Refusal::Unread)?;
+    let number = count_at(line).ok_or(Refusal::Unread)?;
+    let from = vector(decls, field_at(4, line)).ok_or(Refusal::Unread)?;
+    let has = packed(alloc, decls, field_at(6, line))?;
+    let msg = msg_with(stream, number, empty_from(alloc, &from)?);
+    Ok(Event::Gapped { msg, has })
 }
 
 #[tactic(auto, unfolding(crate::specs::Events::missing_of))]

@@ -12,7 +12,7 @@ use crate::refusal::Refusal;
 use crate::stamp::point;
 use pr_script::Decl;
 use pr_stamps::Seq;
-use pr_vectors::Vector;
+use pr_vectors::{PackedVector, Vector};
 use std::alloc::Global;
 
 /// Clocks joined by commas, or a hyphen.
@@ -27,6 +27,18 @@ pub fn vector(decls: &[Decl], bytes: &[u8]) -> Option<Vector>
         return Some(no_clocks());
     }
     clocks(decls, bytes)
+}
+
+/// The same as an event keeps it, in memory of its own.
+pub fn packed(alloc: Global, decls: &[Decl], bytes: &[u8]) -> Result<PackedVector, Refusal>
+    requires { AreLabels decls.now }
+    ensures reads { Gives result (vector_read decls.now bytes.now) }
+    ensures range { IfOk result IsVector }
+    ensures declared { IfOk result (HasVector (nodes_of decls.now)) }
+{
+    let vector = vector(decls, bytes).ok_or(Refusal::Unread)?;
+    let packed = PackedVector::of(alloc, &vector)?;
+    Ok(packed)
 }
 
 /// The zero vector.

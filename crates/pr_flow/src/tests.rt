@@ -11,7 +11,7 @@ use pr_ports::Failed;
 use pr_sets::NameSet;
 use pr_stamps::{MAX, NoMemory};
 use pr_story::{Cause, Entry, Event, Journal};
-use pr_vectors::Vector;
+use pr_vectors::{PackedVector, Vector};
 use pr_wire::{Feed, Next};
 use pr_wires::{TapeWires, TrueWire, TrueWires, Wire, Wires};
 use std::alloc::Global;
@@ -81,7 +81,7 @@ fn is_noted(session: &mut Session, msg: &Msg, time: u64) -> bool
     }
     match &msg.kind {
         Kind::Precise { to, .. } => {
-            session.sent(to, time);
+            session.sent(&to.get(), time);
             true
         }
         _ => false,
@@ -123,7 +123,8 @@ impl Side for Small {
 
     fn accept(&mut self, msg: Msg) -> Result<Taken, NodeFault> {
         self.journal.reserve()?;
-        let (time, has) = (msg.time, Vector::zero());
+        let (time, zero) = (msg.time, Vector::zero());
+        let has = PackedVector::of(self.alloc, &zero)?;
         if self.has_gap {
             self.journal.push(Entry {
                 time,
@@ -131,8 +132,8 @@ impl Side for Small {
                 event: Event::Gapped { msg, has },
             });
             return Ok(Taken::Gap {
-                needs: has,
-                has,
+                needs: zero,
+                has: zero,
                 time,
             });
         }

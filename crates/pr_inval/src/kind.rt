@@ -5,7 +5,7 @@ use crate::{Bytes, Row, WriteRec};
 use pr_names::Name;
 use pr_sets::NameSet;
 use pr_stamps::{NoMemory, Seq, Stamp};
-use pr_vectors::Vector;
+use pr_vectors::PackedVector;
 use std::alloc::Global;
 
 /// The four kinds of message ("PRACTI Replication", NSDI 2006, sections 3.1 to 3.3). An invalidation covers the
@@ -14,21 +14,21 @@ use std::alloc::Global;
 pub enum Kind {
     /// One write, and that no other write stands at the points that it covers.
     Precise {
-        from: Vector,
-        to: Vector,
+        from: PackedVector,
+        to: PackedVector,
         write: WriteRec,
     },
     /// Each write at the points that it covers is to a name of the target.
     Imprecise {
-        from: Vector,
-        to: Vector,
+        from: PackedVector,
+        to: PackedVector,
         target: NameSet,
     },
     /// The newest writes to all names but those of the target. It covers the points up to its vector.
     Checkpoint {
-        to: Vector,
+        to: PackedVector,
         target: NameSet,
-        floor: Vector,
+        floor: PackedVector,
         rows: Seq<Row>,
     },
     /// What a write wrote. It covers no point.
@@ -40,21 +40,21 @@ pub enum Kind {
 }
 
 impl Kind {
-    /// A copy, in time linear in the target, the rows with their marks, and the bytes.
+    /// A copy, in time linear in the vectors, the target, the rows with their marks, and the bytes.
     pub fn copy(&self, alloc: Global) -> Result<Kind, NoMemory>
         ensures { IfOk result (λ kind. kind ≡ self.now) }
     {
         match self {
             Kind::Precise { from, to, write } => Ok(Kind::Precise {
-                from: *from,
-                to: *to,
+                from: from.copy(alloc)?,
+                to: to.copy(alloc)?,
                 write: *write,
             }),
             Kind::Imprecise { from, to, target } => {
                 let target = target.copy(alloc)?;
                 Ok(Kind::Imprecise {
-                    from: *from,
-                    to: *to,
+                    from: from.copy(alloc)?,
+                    to: to.copy(alloc)?,
                     target,
                 })
             }
@@ -67,9 +67,9 @@ impl Kind {
                 let target = target.copy(alloc)?;
                 let rows = copied_rows(alloc, rows.as_slice())?;
                 Ok(Kind::Checkpoint {
-                    to: *to,
+                    to: to.copy(alloc)?,
                     target,
-                    floor: *floor,
+                    floor: floor.copy(alloc)?,
                     rows,
                 })
             }

@@ -15,27 +15,12 @@ pub struct Msg {
 }
 
 impl Msg {
-    /// A copy, in time linear in what the message holds. It takes memory for the target, the rows with their marks,
-    /// and the bytes: for a precise message, none.
+    /// A copy, in time linear in what the message holds. It takes memory for the vectors, the target, the rows with
+    /// their marks, and the bytes.
     pub fn copy(&self, alloc: Global) -> Result<Msg, NoMemory>
         ensures { IfOk result (λ msg. msg ≡ self.now) }
     {
-        // Nearly all messages are precise: the copy of one is made where it is answered, and its kind is not moved.
-        let kind = match &self.kind {
-            Kind::Precise { from, to, write } => {
-                return Ok(Msg {
-                    time: self.time,
-                    stream: self.stream,
-                    number: self.number,
-                    kind: Kind::Precise {
-                        from: *from,
-                        to: *to,
-                        write: *write,
-                    },
-                });
-            }
-            kind => kind.copy(alloc)?,
-        };
+        let kind = self.kind.copy(alloc)?;
         Ok(Msg {
             time: self.time,
             stream: self.stream,

@@ -7,7 +7,7 @@ use crate::{
 use pr_names::Name;
 use pr_sets::NameSet;
 use pr_stamps::{Mark, Seq, Stamp};
-use pr_vectors::Vector;
+use pr_vectors::{PackedVector, Vector};
 use std::alloc::Global;
 
 // What a test needs is made in short functions, which answer `None` where there is no memory or a value is refused.
@@ -32,6 +32,11 @@ fn vector(clock: u64) -> Option<Vector> {
     let mut vector = Vector::zero();
     vector.raise(&stamp);
     Some(vector)
+}
+
+// The same at rest.
+fn packed(alloc: Global, vector: &Vector) -> Option<PackedVector> {
+    PackedVector::of(alloc, vector).ok()
 }
 
 // ---- merging
@@ -147,18 +152,25 @@ fn write() -> Option<WriteRec> {
 fn is_precise(kind: &Kind, end: &Vector, told: &WriteRec) -> bool {
     match kind {
         Kind::Precise { from, to, write } => {
-            *from == Vector::zero() && *to == *end && *write == *told
+            from.get() == Vector::zero() && to.get() == *end && *write == *told
         }
         _ => false,
     }
 }
 
+fn precise(alloc: Global, write: WriteRec) -> Option<Kind> {
+    Some(Kind::Precise {
+        from: packed(alloc, &Vector::zero())?,
+        to: packed(alloc, &vector(1)?)?,
+        write,
+    })
+}
+
 fn is_message_copied(alloc: Global) -> Option<bool> {
-    let (from, to, write) = (Vector::zero(), vector(1)?, write()?);
-    let msg = message(Kind::Precise { from, to, write });
-    let copy = msg.copy(alloc).ok()?;
+    let (end, write) = (vector(1)?, write()?);
+    let copy = message(precise(alloc, write)?).copy(alloc).ok()?;
     let head = copy.time == 2 && copy.stream == 0 && copy.number == 1;
-    Some(head && is_precise(&copy.kind, &to, &write))
+    Some(head && is_precise(&copy.kind, &end, &write))
 }
 
 #[test]
@@ -175,8 +187,8 @@ fn has_target(alloc: Global, kind: &Kind, want: &[u8]) -> Option<bool> {
 
 fn is_target_copied(alloc: Global) -> Option<bool> {
     let kind = Kind::Imprecise {
-        from: Vector::zero(),
-        to: vector(1)?,
+        from: packed(alloc, &Vector::zero())?,
+        to: packed(alloc, &vector(1)?)?,
         target: set(alloc, b"a,b")?,
     };
     has_target(alloc, &copied(alloc, kind)?, b"a,b")
@@ -241,14 +253,13 @@ fn has_row(kind: &Kind, mark: Mark) -> bool {
 }
 
 fn is_row_copied(alloc: Global) -> Option<bool> {
-    let (to, mark) = (vector(2)?, mark()?);
     let kind = Kind::Checkpoint {
-        to,
+        to: packed(alloc, &vector(2)?)?,
         target: set(alloc, b"b*")?,
-        floor: Vector::zero(),
+        floor: packed(alloc, &Vector::zero())?,
         rows: rows(alloc)?,
     };
-    Some(has_row(&copied(alloc, kind)?, mark))
+    Some(has_row(&copied(alloc, kind)?, mark()?))
 }
 
 #[test]

@@ -12,7 +12,7 @@ use pr_inval::{Bytes, Msg, WriteRec};
 use pr_names::Name;
 use pr_stamps::{Seq, Stamp};
 use pr_story::{Cause, Entry, Event, Found, Reply};
-use pr_vectors::Vector;
+use pr_vectors::{PackedVector, Vector};
 use pr_wire::{Feed, Next};
 use std::alloc::Global;
 
@@ -39,6 +39,10 @@ fn name() -> Option<Name> {
     Name::read(b"a/x").ok()
 }
 
+fn zero(alloc: Global) -> Option<PackedVector> {
+    PackedVector::of(alloc, &Vector::zero()).ok()
+}
+
 fn text(alloc: Global) -> Option<Bytes> {
     Seq::copied(alloc, b"hi").ok()
 }
@@ -48,12 +52,16 @@ fn text(alloc: Global) -> Option<Bytes> {
 // Whether these bytes are read as an entry of node 3.
 fn is_read(alloc: Global, bytes: &[u8]) -> bool {
     match whole_entry(alloc, bytes) {
-        Ok((node, entry)) => node == 3 && entry.time == 5 && entry.caller == 7,
+        Ok((node, entry)) => is_third(node, &entry),
         Err(_) => false,
     }
 }
 
-// Whether the entry is read again from its spelling, which has this kind.
+fn is_third(node: u32, entry: &Entry) -> bool {
+    node == 3 && entry.time == 5 && entry.caller == 7
+}
+
+// Whether the entry of the event is read again from its spelling, which has this kind.
 fn comes_back(alloc: Global, kind: u8, event: Event) -> Option<bool>
     requires { HasMessage event }
 {
@@ -62,8 +70,14 @@ fn comes_back(alloc: Global, kind: u8, event: Event) -> Option<bool>
         caller: 7,
         event,
     };
+    is_spelled(alloc, kind, &entry)
+}
+
+fn is_spelled(alloc: Global, kind: u8, entry: &Entry) -> Option<bool>
+    requires { HasMessage entry.now.event }
+{
     let mut out = Seq::new(alloc);
-    append_entry(3, &entry, &mut out).ok()?;
+    append_entry(3, entry, &mut out).ok()?;
     let bytes = out.as_slice();
     Some(bytes.len() > 13 && bytes[13] == kind && is_read(alloc, bytes))
 }
@@ -81,17 +95,26 @@ fn wrote(alloc: Global) -> Option<Event>
         client: 1,
         write,
         body: text(alloc)?,
-        after: Vector::zero(),
+        after: zero(alloc)?,
     })
 }
 
+fn attached(alloc: Global) -> Option<bool> {
+    let at = zero(alloc)?;
+    comes_back(alloc, 2, Event::Attached { stream: 1, at })
+}
+
+fn stale(alloc: Global) -> Option<bool> {
+    let cut = zero(alloc)?;
+    comes_back(alloc, 5, Event::Stale { stream: 1, cut })
+}
+
 fn streams_come_back(alloc: Global) -> Option<bool> {
-    let at = Vector::zero();
     Some(
         comes_back(alloc, 1, wrote(alloc)?)?
-            && comes_back(alloc, 2, Event::Attached { stream: 1, at })?
+            && attached(alloc)?
             && comes_back(alloc, 4, Event::Idle { stream: 1 })?
-            && comes_back(alloc, 5, Event::Stale { stream: 1, cut: at })?,
+            && stale(alloc)?,
     )
 }
 
@@ -106,12 +129,12 @@ fn sent(alloc: Global) -> Option<bool> {
 }
 
 fn accepted(alloc: Global) -> Option<bool> {
-    let (msg, at) = (message(alloc)?, Vector::zero());
+    let (msg, at) = (message(alloc)?, zero(alloc)?);
     comes_back(alloc, 6, Event::Accepted { msg, at })
 }
 
 fn gapped(alloc: Global) -> Option<bool> {
-    let (msg, has) = (message(alloc)?, Vector::zero());
+    let (msg, has) = (message(alloc)?, zero(alloc)?);
     comes_back(alloc, 7, Event::Gapped { msg, has })
 }
 
@@ -133,14 +156,14 @@ fn missing() -> Event
     }
 }
 
-fn behind() -> Event
-    ensures { HasMessage result }
+fn behind(alloc: Global) -> Option<Event>
+    ensures { IfSome result HasMessage }
 {
-    Event::Behind {
+    Some(Event::Behind {
         client: 1,
-        needs: Vector::zero(),
-        has: Vector::zero(),
-    }
+        needs: zero(alloc)?,
+        has: zero(alloc)?,
+    })
 }
 
 fn flows_come_back(alloc: Global) -> Option<bool> {
@@ -149,7 +172,7 @@ fn flows_come_back(alloc: Global) -> Option<bool> {
         comes_back(alloc, 8, missing())?
             && comes_back(alloc, 9, Event::Down { stream: 1, cause })?
             && comes_back(alloc, 15, Event::Moved { client: 1 })?
-            && comes_back(alloc, 16, behind())?,
+            && comes_back(alloc, 16, behind(alloc)?)?,
     )
 }
 
@@ -164,7 +187,7 @@ fn is_answer(alloc: Global, reply: Reply) -> Option<bool> {
         client: 1,
         name: name()?,
         reply,
-        at: Vector::zero(),
+        at: zero(alloc)?,
     };
     comes_back(alloc, 10, event)
 }
@@ -196,20 +219,24 @@ fn conflicts(alloc: Global) -> Option<bool> {
 }
 
 fn state(alloc: Global) -> Option<bool> {
-    let at = Vector::zero();
     let event = Event::State {
-        at,
-        cut: at,
-        floor: at,
-        precise: Seq::copied(alloc, &[at, at]).ok()?,
+        at: zero(alloc)?,
+        cut: zero(alloc)?,
+        floor: zero(alloc)?,
+        precise: Seq::copied(alloc, &[Vector::zero(), Vector::zero()]).ok()?,
     };
     comes_back(alloc, 14, event)
 }
 
+fn cut(alloc: Global) -> Option<bool> {
+    let at = zero(alloc)?;
+    comes_back(alloc, 11, Event::Cut { at })
+}
+
 fn nodes_come_back(alloc: Global) -> Option<bool> {
-    let (at, name) = (Vector::zero(), name()?);
+    let name = name()?;
     Some(
-        comes_back(alloc, 11, Event::Cut { at })?
+        cut(alloc)?
             && comes_back(alloc, 12, Event::Dropped { name })?
             && conflicts(alloc)?
             && state(alloc)?,

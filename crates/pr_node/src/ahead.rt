@@ -19,7 +19,7 @@ use pr_log::Log;
 use pr_names::Name;
 use pr_sets::NameSet;
 use pr_stamps::{NoMemory, Stamp};
-use pr_vectors::Vector;
+use pr_vectors::{PackedVector, Vector};
 use std::alloc::Global;
 
 // The names of which something is withheld between two vectors.
@@ -30,7 +30,7 @@ pub struct Withheld {
 }
 
 // Sends the invalidation for these names from a position that the vector is past, as the session's next message. The
-// message is made where it is answered, and in calls of their own, since each move of one copies hundreds of bytes.
+// message is made where it is answered, and in calls of their own, since each move of one copies it.
 #[inline(never)]
 pub fn ahead(
     alloc: Global,
@@ -54,7 +54,7 @@ pub fn ahead(
     let found = found_between(alloc, log, names, position, &before)?;
     if is_nothing(&found) {
         let to = before.raised_within(&write.stamp, &vector);
-        return precise(position, &to, &write, session, time);
+        return precise(alloc, position, &to, &write, session, time);
     }
     imprecise(alloc, &found, names, position, &before, session, time)
 }
@@ -113,6 +113,8 @@ fn imprecise(
 {
     let target = target_for(alloc, &found.omitted, &found.dark, names)?;
     let _ = target.parts();
+    let packed_from = PackedVector::of(alloc, from)?;
+    let packed_to = PackedVector::of(alloc, to)?;
     let _ = from.at(0);
     let _ = to.at(0);
     let _ = session.time();
@@ -121,8 +123,8 @@ fn imprecise(
         stream: session.stream(),
         number: session.number() + 1,
         kind: Kind::Imprecise {
-            from: *from,
-            to: *to,
+            from: packed_from,
+            to: packed_to,
             target,
         },
     }))
@@ -130,16 +132,18 @@ fn imprecise(
 
 #[inline(never)]
 fn precise(
+    alloc: Global,
     from: &Vector,
     to: &Vector,
     write: &WriteRec,
     session: &Session,
     time: u64,
 ) -> Result<Step, NoMemory>
-    ensures ok { IsOk result }
     ensures value { IfOk result (IsSentOf (λ kind. kind ≡ Precise from.now to.now write.now) (means session.now) time) }
     ensures range { IfOk result IsStepInRange }
 {
+    let packed_from = PackedVector::of(alloc, from)?;
+    let packed_to = PackedVector::of(alloc, to)?;
     let _ = from.at(0);
     let _ = to.at(0);
     let _ = session.time();
@@ -149,8 +153,8 @@ fn precise(
         stream: session.stream(),
         number: session.number() + 1,
         kind: Kind::Precise {
-            from: *from,
-            to: *to,
+            from: packed_from,
+            to: packed_to,
             write: *write,
         },
     }))

@@ -2,22 +2,23 @@
 ghost use Rattle.pr_inval.specs.declared.node_fault.NodeFault.TheVariants as faults;
 ghost use Rattle.pr_node.specs.Calls.{IsHalted};
 ghost use Rattle.pr_story.specs.Lawful.{last_time};
-ghost use Rattle.pr_story.specs.declared.event.Event.TheVariants.{Accepted, Behind, Gapped, Sent, Stale};
+ghost use Rattle.pr_story.specs.declared.event.Event.TheVariants.{Accepted, Answered, Attached, Behind, Cut, Gapped, Sent, Stale, State, Wrote};
 ghost use Rattle.pr_story.specs.Turns.{event_of};
 ghost use Rattle.std.specs.Prelude.{◌≡◌, ◌≤◌, ◌<◌, ◌+◌, ◌++◌, ◌∷◌, [], Err, true, false, IfErr, IfOk, OnErr, OnOk, max, reverse};
 
-use pr_inval::{Msg, NodeFault, Step};
-use pr_stamps::{MAX, NoMemory};
-use pr_story::{Entry, Event, Journal};
-use pr_vectors::Vector;
+use pr_inval::{Bytes, Msg, NodeFault, Step, WriteRec};
+use pr_names::Name;
+use pr_stamps::{MAX, NoMemory, Seq};
+use pr_story::{Entry, Event, Journal, Reply};
+use pr_vectors::{PackedVector, Vector};
 use std::alloc::Global;
 use std::marker::Model;
 
 // A node's journal. From where a call begins to where its entry is made the node counts as spent, so that a refusal on
-// the way leaves it spent. Events of many bytes are made in calls of their own, so that no other call clears room for
-// them.
+// the way leaves it spent. An entry keeps its vectors packed, so one that has some may be refused.
 #[derive(Drop)]
 pub struct Diary {
+    alloc: Global,
     journal: Journal,
     last: u64,
     spent: bool,
@@ -41,6 +42,7 @@ impl Diary {
         ensures works { result.spent ≡ false }
     {
         Diary {
+            alloc,
             journal: Journal::new(alloc),
             last: 0,
             spent: false,
@@ -48,13 +50,14 @@ impl Diary {
     }
 
     // What a node has done up to now.
-    pub fn of(journal: Journal) -> Diary
+    pub fn of(alloc: Global, journal: Journal) -> Diary
         requires { last_time (reverse journal.items) ≤ 4611686018427387903 }
         ensures items { result.entries.items ≡ journal.items }
         ensures works { result.spent ≡ false }
     {
         let last = last_of(journal.entries());
         Diary {
+            alloc,
             journal,
             last,
             spent: false,
@@ -121,7 +124,6 @@ impl Diary {
     // Makes the entry of a stream's turn, with a copy of the message. A refusal leaves the diary.
     pub fn turned(
         &mut self,
-        alloc: Global,
         time: u64,
         caller: u32,
         stream: u32,
@@ -135,17 +137,16 @@ impl Diary {
     {
         match step {
             Step::Sent(msg) => {
-                let msg = msg.copy(alloc)?;
+                let msg = msg.copy(self.alloc)?;
                 self.sent(time, caller, msg);
             }
             Step::Idle => self.finish(time, caller, Event::Idle { stream }),
-            Step::Stale { cut } => self.stale(time, caller, stream, cut),
+            Step::Stale { cut } => self.stale(time, caller, stream, cut)?,
         }
         Ok(())
     }
 
     // Makes the entry that a message was sent.
-    #[inline(never)]
     pub fn sent(&mut self, time: u64, caller: u32, msg: Msg)
         requires room { 0 < self.old.entries.room }
         requires early { time ≤ 4611686018427387903 }
@@ -156,52 +157,184 @@ impl Diary {
     }
 
     // Makes the entry that a stream wants a checkpoint.
-    #[inline(never)]
-    fn stale(&mut self, time: u64, caller: u32, stream: u32, cut: &Vector)
+    fn stale(&mut self, time: u64, caller: u32, stream: u32, cut: &Vector) -> Result<(), NoMemory>
         requires room { 0 < self.old.entries.room }
         requires early { time ≤ 4611686018427387903 }
-        ensures items { self.new.entries.items ≡ self.old.entries.items ++ (record { time = time; caller = caller; event = Stale stream cut.now }) ∷ [] }
-        ensures spent { self.new.spent ≡ false }
+        ensures items { OnOk result (self.new.entries.items ≡ self.old.entries.items ++ (record { time = time; caller = caller; event = Stale stream cut.now }) ∷ []) }
+        ensures spent { OnOk result (self.new.spent ≡ false) }
+        ensures err { OnErr result (self.new ≡ self.old) }
     {
-        self.finish(time, caller, Event::Stale { stream, cut: *cut });
+        let cut = PackedVector::of(self.alloc, cut)?;
+        self.finish(time, caller, Event::Stale { stream, cut });
+        Ok(())
     }
 
-    // Makes the entry that a message was taken.
-    #[inline(never)]
-    pub fn accepted(&mut self, time: u64, caller: u32, msg: Msg, at: &Vector)
+    // Makes the entry of a client's write.
+    pub fn wrote(
+        &mut self,
+        time: u64,
+        caller: u32,
+        client: u32,
+        write: &WriteRec,
+        body: Bytes,
+        after: &Vector,
+    ) -> Result<(), NoMemory>
         requires room { 0 < self.old.entries.room }
         requires early { time ≤ 4611686018427387903 }
-        ensures items { self.new.entries.items ≡ self.old.entries.items ++ (record { time = time; caller = caller; event = Accepted msg at.now }) ∷ [] }
-        ensures spent { self.new.spent ≡ false }
+        ensures items { OnOk result (self.new.entries.items ≡ self.old.entries.items ++ (record { time = time; caller = caller; event = Wrote client write.now body after.now }) ∷ []) }
+        ensures spent { OnOk result (self.new.spent ≡ false) }
+        ensures err { OnErr result (self.new ≡ self.old) }
     {
-        self.finish(time, caller, Event::Accepted { msg, at: *at });
+        let after = PackedVector::of(self.alloc, after)?;
+        let event = Event::Wrote {
+            client,
+            write: *write,
+            body,
+            after,
+        };
+        self.finish(time, caller, event);
+        Ok(())
     }
 
-    // Makes the entry that a message was not taken, since what comes before it is missing.
-    #[inline(never)]
-    pub fn gapped(&mut self, time: u64, caller: u32, msg: Msg, has: &Vector)
+    // Makes the entry that a client's read was answered.
+    pub fn answered(
+        &mut self,
+        time: u64,
+        caller: u32,
+        client: u32,
+        name: &Name,
+        reply: Reply,
+        at: &Vector,
+    ) -> Result<(), NoMemory>
         requires room { 0 < self.old.entries.room }
         requires early { time ≤ 4611686018427387903 }
-        ensures items { self.new.entries.items ≡ self.old.entries.items ++ (record { time = time; caller = caller; event = Gapped msg has.now }) ∷ [] }
-        ensures spent { self.new.spent ≡ false }
+        ensures items { OnOk result (self.new.entries.items ≡ self.old.entries.items ++ (record { time = time; caller = caller; event = Answered client name.now reply at.now }) ∷ []) }
+        ensures spent { OnOk result (self.new.spent ≡ false) }
+        ensures err { OnErr result (self.new ≡ self.old) }
     {
-        self.finish(time, caller, Event::Gapped { msg, has: *has });
+        let at = PackedVector::of(self.alloc, at)?;
+        let event = Event::Answered {
+            client,
+            name: *name,
+            reply,
+            at,
+        };
+        self.finish(time, caller, event);
+        Ok(())
     }
 
     // Makes the entry that a client has seen what the node lacks.
-    #[inline(never)]
-    pub fn behind(&mut self, time: u64, caller: u32, client: u32, needs: &Vector, has: &Vector)
+    pub fn behind(
+        &mut self,
+        time: u64,
+        caller: u32,
+        client: u32,
+        needs: &Vector,
+        has: &Vector,
+    ) -> Result<(), NoMemory>
         requires room { 0 < self.old.entries.room }
         requires early { time ≤ 4611686018427387903 }
-        ensures items { self.new.entries.items ≡ self.old.entries.items ++ (record { time = time; caller = caller; event = Behind client needs.now has.now }) ∷ [] }
-        ensures spent { self.new.spent ≡ false }
+        ensures items { OnOk result (self.new.entries.items ≡ self.old.entries.items ++ (record { time = time; caller = caller; event = Behind client needs.now has.now }) ∷ []) }
+        ensures spent { OnOk result (self.new.spent ≡ false) }
+        ensures err { OnErr result (self.new ≡ self.old) }
     {
-        let event = Event::Behind {
-            client,
-            needs: *needs,
-            has: *has,
+        let needs = PackedVector::of(self.alloc, needs)?;
+        let has = PackedVector::of(self.alloc, has)?;
+        self.finish(time, caller, Event::Behind { client, needs, has });
+        Ok(())
+    }
+
+    // Makes the entry that a stream begins anew.
+    pub fn attached(
+        &mut self,
+        time: u64,
+        caller: u32,
+        stream: u32,
+        at: &Vector,
+    ) -> Result<(), NoMemory>
+        requires room { 0 < self.old.entries.room }
+        requires early { time ≤ 4611686018427387903 }
+        ensures items { OnOk result (self.new.entries.items ≡ self.old.entries.items ++ (record { time = time; caller = caller; event = Attached stream at.now }) ∷ []) }
+        ensures spent { OnOk result (self.new.spent ≡ false) }
+        ensures err { OnErr result (self.new ≡ self.old) }
+    {
+        let at = PackedVector::of(self.alloc, at)?;
+        self.finish(time, caller, Event::Attached { stream, at });
+        Ok(())
+    }
+
+    // Makes the entry that a message was taken.
+    pub fn accepted(
+        &mut self,
+        time: u64,
+        caller: u32,
+        msg: Msg,
+        at: &Vector,
+    ) -> Result<(), NoMemory>
+        requires room { 0 < self.old.entries.room }
+        requires early { time ≤ 4611686018427387903 }
+        ensures items { OnOk result (self.new.entries.items ≡ self.old.entries.items ++ (record { time = time; caller = caller; event = Accepted msg at.now }) ∷ []) }
+        ensures spent { OnOk result (self.new.spent ≡ false) }
+        ensures err { OnErr result (self.new ≡ self.old) }
+    {
+        let at = PackedVector::of(self.alloc, at)?;
+        self.finish(time, caller, Event::Accepted { msg, at });
+        Ok(())
+    }
+
+    // Makes the entry that a message was not taken, since what comes before it is missing.
+    pub fn gapped(&mut self, time: u64, caller: u32, msg: Msg, has: &Vector) -> Result<(), NoMemory>
+        requires room { 0 < self.old.entries.room }
+        requires early { time ≤ 4611686018427387903 }
+        ensures items { OnOk result (self.new.entries.items ≡ self.old.entries.items ++ (record { time = time; caller = caller; event = Gapped msg has.now }) ∷ []) }
+        ensures spent { OnOk result (self.new.spent ≡ false) }
+        ensures err { OnErr result (self.new ≡ self.old) }
+    {
+        let has = PackedVector::of(self.alloc, has)?;
+        self.finish(time, caller, Event::Gapped { msg, has });
+        Ok(())
+    }
+
+    // Makes the entry that the log was cut.
+    pub fn cut(&mut self, time: u64, caller: u32, at: &Vector) -> Result<(), NoMemory>
+        requires room { 0 < self.old.entries.room }
+        requires early { time ≤ 4611686018427387903 }
+        ensures items { OnOk result (self.new.entries.items ≡ self.old.entries.items ++ (record { time = time; caller = caller; event = Cut at.now }) ∷ []) }
+        ensures spent { OnOk result (self.new.spent ≡ false) }
+        ensures err { OnErr result (self.new ≡ self.old) }
+    {
+        let at = PackedVector::of(self.alloc, at)?;
+        self.finish(time, caller, Event::Cut { at });
+        Ok(())
+    }
+
+    // Makes the entry that tells the node's vectors.
+    pub fn state(
+        &mut self,
+        time: u64,
+        caller: u32,
+        at: &Vector,
+        cut: &Vector,
+        floor: &Vector,
+        precise: Seq<Vector>,
+    ) -> Result<(), NoMemory>
+        requires room { 0 < self.old.entries.room }
+        requires early { time ≤ 4611686018427387903 }
+        ensures items { OnOk result (self.new.entries.items ≡ self.old.entries.items ++ (record { time = time; caller = caller; event = State at.now cut.now floor.now precise }) ∷ []) }
+        ensures spent { OnOk result (self.new.spent ≡ false) }
+        ensures err { OnErr result (self.new ≡ self.old) }
+    {
+        let at = PackedVector::of(self.alloc, at)?;
+        let cut = PackedVector::of(self.alloc, cut)?;
+        let floor = PackedVector::of(self.alloc, floor)?;
+        let event = Event::State {
+            at,
+            cut,
+            floor,
+            precise,
         };
         self.finish(time, caller, event);
+        Ok(())
     }
 }
 

@@ -102,7 +102,7 @@ impl Node {
         Ok(Node {
             alloc,
             id,
-            diary: Diary::of(journal),
+            diary: Diary::of(alloc, journal),
             stores,
         })
     }
@@ -184,7 +184,7 @@ impl Node {
         let _ = needs.at(0);
         bytes_in_range(body);
         if !needs.le(&after) {
-            self.diary.behind(time, caller, client, needs, &after);
+            self.diary.behind(time, caller, client, needs, &after)?;
             return Ok(Done::Behind { has: after });
         }
         let Some(write) = next_write(&self.stores, self.id, name, gone) else {
@@ -194,13 +194,8 @@ impl Node {
         let body = Seq::copied(self.alloc, body)?;
         keep_write(&mut self.stores, &write, body.as_slice())?;
         let stamp = write.stamp;
-        let event = Event::Wrote {
-            client,
-            write,
-            body,
-            after,
-        };
-        self.diary.finish(time, caller, event);
+        self.diary
+            .wrote(time, caller, client, &write, body, &after)?;
         Ok(Done::Stamp(stamp))
     }
 
@@ -217,12 +212,12 @@ impl Node {
         let time = self.diary.begin(msg.time)?;
         let has = self.stores.log.vector();
         if let Some(needs) = gap(&msg.kind, &has) {
-            self.diary.gapped(time, caller, msg, &has);
+            self.diary.gapped(time, caller, msg, &has)?;
             return Ok(Taken::Gap { needs, has, time });
         }
         take(self.alloc, &mut self.stores, &msg.kind)?;
         let at = self.stores.log.vector();
-        self.diary.accepted(time, caller, msg, &at);
+        self.diary.accepted(time, caller, msg, &at)?;
         Ok(Taken::Accepted { time })
     }
 
@@ -237,8 +232,7 @@ impl Node {
         let time = self.diary.begin(0)?;
         let at = self.stores.log.vector();
         cut(&mut self.stores);
-        let event = Event::Cut { at };
-        self.diary.finish(time, caller, event);
+        self.diary.cut(time, caller, &at)?;
         Ok(at)
     }
 
@@ -295,17 +289,11 @@ impl Node {
         let _ = needs.at(0);
         let _ = name.bytes();
         if !needs.le(&at) {
-            self.diary.behind(time, caller, client, needs, &at);
+            self.diary.behind(time, caller, client, needs, &at)?;
             return Ok(Seen::Behind { has: at });
         }
         let (answered, kept) = replies(self.alloc, &answer(&self.stores, name))?;
-        let event = Event::Answered {
-            client,
-            name: *name,
-            reply: kept,
-            at,
-        };
-        self.diary.finish(time, caller, event);
+        self.diary.answered(time, caller, client, name, kept, &at)?;
         Ok(Seen::Reply(answered))
     }
 
@@ -334,13 +322,10 @@ impl Node {
     {
         let time = self.diary.begin(0)?;
         let precise = precise(self.alloc, &self.stores.gaps)?;
-        let event = Event::State {
-            at: self.stores.log.vector(),
-            cut: self.stores.log.cut_at(),
-            floor: self.stores.marks.floor(),
-            precise,
-        };
-        self.diary.finish(time, caller, event);
+        let at = self.stores.log.vector();
+        let cut = self.stores.log.cut_at();
+        let floor = self.stores.marks.floor();
+        self.diary.state(time, caller, &at, &cut, &floor, precise)?;
         Ok(())
     }
 
@@ -385,7 +370,7 @@ impl Node {
         let entries = self.diary.journal().entries();
         let step = next_step(self.alloc, &self.stores, entries, session, scan, time)?;
         let stream = session.stream();
-        self.diary.turned(self.alloc, time, caller, stream, &step)?;
+        self.diary.turned(time, caller, stream, &step)?;
         note(session, &step, time);
         Ok(step)
     }
@@ -421,13 +406,9 @@ impl Node {
     {
         let time = self.diary.begin(session.time())?;
         let at = start(&self.stores.gaps, session.sub());
+        self.diary.attached(time, caller, session.stream(), &at)?;
         session.begin(&at);
         session.heard(time);
-        let event = Event::Attached {
-            stream: session.stream(),
-            at,
-        };
-        self.diary.finish(time, caller, event);
         Ok(at)
     }
 

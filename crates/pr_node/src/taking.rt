@@ -24,7 +24,7 @@ pub fn gap(kind: &Kind, has: &Vector) -> Option<Vector>
 {
     match kind {
         Kind::Precise { from, .. } | Kind::Imprecise { from, .. } => {
-            if from.le(has) { None } else { Some(*from) }
+            if from.le(has) { None } else { Some(from.get()) }
         }
         Kind::Checkpoint { .. } | Kind::Body { .. } => None,
     }
@@ -40,14 +40,22 @@ pub fn take(alloc: Global, stores: &mut Stores, kind: &Kind) -> Result<(), NoMem
     ensures sets { stores.new.gaps.sets ≡ stores.old.gaps.sets }
 {
     match kind {
-        Kind::Precise { from, to, write } => take_precise(alloc, stores, from, to, write),
-        Kind::Imprecise { from, to, target } => take_imprecise(stores, from, to, target),
+        Kind::Precise { from, to, write } => take_precise(
+            alloc,
+            stores,
+            &from.get(),
+            &to.get(),
+            write,
+        ),
+        Kind::Imprecise { from, to, target } => {
+            take_imprecise(stores, &from.get(), &to.get(), target)
+        }
         Kind::Checkpoint {
             to,
             target,
             floor,
             rows,
-        } => take_checkpoint(stores, to, target, floor, rows.as_slice()),
+        } => take_checkpoint(stores, &to.get(), target, &floor.get(), rows.as_slice()),
         Kind::Body { name, stamp, bytes } => take_body(stores, name, stamp, bytes.as_slice()),
     }
 }

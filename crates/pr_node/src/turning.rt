@@ -111,8 +111,8 @@ pub fn note_sent(session: &mut Session, kind: &Kind, time: u64)
     let _ = session.pos();
     match kind {
         Kind::Body { name, stamp, .. } => session.sent_body(name, stamp, time),
-        Kind::Precise { to, .. } => session.sent(to, time),
-        Kind::Imprecise { to, .. } => session.sent(to, time),
-        Kind::Checkpoint { to, .. } => session.sent(to, time),
+        Kind::Precise { to, .. } => session.sent(&to.get(), time),
+        Kind::Imprecise { to, .. } => session.sent(&to.get(), time),
+        Kind::Checkpoint { to, .. } => session.sent(&to.get(), time),
     }
 }

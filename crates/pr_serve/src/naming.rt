@@ -5,7 +5,7 @@ ghost use Rattle.std.specs.Prelude.{◌↔◌, IsTrue};
 
 use pr_inval::{Kind, Msg, Row};
 use pr_stamps::{Mark, NODES, Stamp};
-use pr_vectors::Vector;
+use pr_vectors::PackedVector;
 
 /// Whether the message names only nodes below `nodes`, and its stream is one of these, in time linear in the streams and
 /// in what the message holds.
@@ -41,7 +41,7 @@ fn names_kind(kind: &Kind, nodes: u32) -> bool
 }
 
 // Whether the vector has no clock of another node.
-fn names_vector(vector: &Vector, nodes: u32) -> bool
+fn names_vector(vector: &PackedVector, nodes: u32) -> bool
     ensures { IsTrue result ↔ HasVector nodes vector.now }
 {
     let _first = vector.at(0);

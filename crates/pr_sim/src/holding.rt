@@ -116,11 +116,11 @@ fn note_client(entry: &Entry, node: u32, homes: &mut Vec<u32>, seen: &mut Vec<Ve
             after,
             ..
         } => {
-            let mut at = *after;
+            let mut at = after.get();
             at.raise(&write.stamp);
             see(seen, *client, &at);
         }
-        Event::Answered { client, at, .. } => see(seen, *client, at),
+        Event::Answered { client, at, .. } => see(seen, *client, &at.get()),
         Event::Moved { client } => homes[*client as usize] = node,
         _ => {}
     }

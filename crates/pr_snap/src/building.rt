@@ -14,6 +14,7 @@ use pr_marks::Marks;
 use pr_names::Name;
 use pr_sets::NameSet;
 use pr_stamps::{NoMemory, Seq};
+use pr_vectors::PackedVector;
 use std::alloc::Global;
 
 /// The checkpoint of these names ("PRACTI Replication", NSDI 2006, section 3.3). It takes time linear in the marks of
@@ -22,12 +23,14 @@ use std::alloc::Global;
 pub fn build(alloc: Global, gaps: &Gaps, marks: &Marks, sub: &NameSet) -> Result<Kind, NoMemory>
     ensures { IfOk result (IsBuilt gaps.now marks.now sub.now) }
 {
+    let to = PackedVector::of(alloc, &gaps.vector())?;
+    let floor = PackedVector::of(alloc, &marks.floor())?;
     let target = target(alloc, gaps, sub)?;
     let rows = rows(alloc, marks, &target)?;
     Ok(Kind::Checkpoint {
-        to: gaps.vector(),
+        to,
         target,
-        floor: marks.floor(),
+        floor,
         rows,
     })
 }

@@ -78,7 +78,7 @@ fn made(alloc: Global, stores: &(Gaps, Marks), clocks: (u64, u64)) -> Option<(Na
             floor,
             rows,
         } => {
-            if to == up_to(clocks.0) && floor == up_to(clocks.1) {
+            if to.get() == up_to(clocks.0) && floor.get() == up_to(clocks.1) {
                 Some((target, rows))
             } else {
                 None

@@ -4,9 +4,10 @@ use Rattle.std.specs.Prelude.{IsTrue, Option, None, Some, Contains, ◌↔◌, �
 use Rattle.std.proofs.lemmas.Bool.Decides.{nat_tests}
 use Rattle.std.proofs.lemmas.List.Elements.{Contains-append_left, Contains-append_right, Contains-append_cases}
 use Rattle.pr_stamps.specs.Point.{Point}
+use Rattle.pr_names.specs.Name.{IsName}
 use Rattle.pr_names.specs.Order.{name_lt}
 use Rattle.pr_names.specs.Span.{Span}
-use Rattle.pr_vectors.specs.Vector.{Le}
+use Rattle.pr_vectors.specs.Vector.{Le, join_of, below_of}
 use Rattle.pr_sets.specs.Spans.{has, Meet, IsSetOf}
 use Rattle.pr_inval.specs.declared.kind.Kind.{Kind}
 use Rattle.pr_inval.specs.declared.kind.Kind.TheVariants.{Precise, Imprecise, Checkpoint, Body}
@@ -21,7 +22,7 @@ use Rattle.pr_story.specs.declared.plain.next.Next.{Next}
 use Rattle.pr_story.specs.declared.plain.next.Next.TheVariants as next
 use Rattle.pr_story.specs.History.{current_vector}
 use Rattle.pr_story.specs.Knowledge.{IsOf, HasRow, NamesStamp, WasNamed, IsNewestKnown, KnowsGone, held_body, cuts_of}
-use Rattle.pr_story.specs.Turns.{IsBodyToSend, IsOmitted, IsTurn, SendTurn}
+use Rattle.pr_story.specs.Turns.{IsBodyToSend, IsNextWrite, IsOmitted, IsTarget, IsTurn, IsWithheld, SendTurn}
 use Rattle.pr_story.specs.Search.{IsNewestOf}
 use Rattle.pr_story.specs.Sending.{turn_of, IsAhead, IsBodyOf, IsBodyTurn, HasBody, IsNamedList, IsNextName, lesser_name, names_in, names_in_kind, row_names}
 use Rattle.pr_story.proofs.Alike.{greatest_one}
@@ -237,6 +238,17 @@ sends n j session (Precise from to write) cut past so = (cut, past, so.0, so.1, 
 sends n j session (Imprecise from to target) cut past so = (cut, past, so.0, so.1, so.2)
 sends n j session (Checkpoint to target floor rows) cut past so = absurd so
 sends n j session (Body name stamp bytes) cut past so = absurd so
+
+-- where something is withheld before the next write
+pub some_withheld : (n : ℕ) (j : List Entry) (names : List Span) (position from to before : List ℕ) (target : List Span) (write : WriteRec)
+    → from ≡ position → to ≡ before → IsTarget n j names position before target → IsNextWrite j names position write
+    → before ≡ join_of position (below_of (current_vector j) write.stamp)
+    → ((o : List ℕ) × IsName o × IsWithheld n j names position before o) → IsAhead n j names position (Imprecise from to target)
+some_withheld n j names position from to before target write starts ends of_it next is more = (
+  starts,
+  subst (λ (v : List ℕ). IsTarget n j names position v target) (sym ends) of_it,
+  inr (write, next, ends ∙ is, subst (λ (v : List ℕ). (o : List ℕ) × IsName o × IsWithheld n j names position v o) (sym ends) more),
+)
 
 pub body_turn : (n : ℕ) (j : List Entry) (session : Standing) (x : Next) → Le (cuts_of j) session.position → Le (current_vector j) session.position → IsTrue session.bodies → IsBodyTurn j session x → IsTurn n j session (turn_of x)
 body_turn n j session (next.Stale cut) low high bodies so = absurd so

@@ -4,7 +4,7 @@ use crate::{Cause, Found, Reply};
 use pr_inval::{Bytes, Msg, WriteRec};
 use pr_names::Name;
 use pr_stamps::Seq;
-use pr_vectors::Vector;
+use pr_vectors::{PackedVector, Vector};
 
 /// An event at one node. Streams, clients and messages are told by their numbers; a vector named `at`, `has` or `after`
 /// is the node's own.
@@ -15,12 +15,12 @@ pub enum Event {
         client: u32,
         write: WriteRec,
         body: Bytes,
-        after: Vector,
+        after: PackedVector,
     },
     /// The stream begins anew at this vector, at its destination.
     Attached {
         stream: u32,
-        at: Vector,
+        at: PackedVector,
     },
     /// The source sent a message.
     Sent {
@@ -33,17 +33,17 @@ pub enum Event {
     /// The stream lies behind the source's cut, so that it wants a checkpoint.
     Stale {
         stream: u32,
-        cut: Vector,
+        cut: PackedVector,
     },
     /// The destination took a message, and has this vector then.
     Accepted {
         msg: Msg,
-        at: Vector,
+        at: PackedVector,
     },
     /// The destination lacks what comes before the message, and did not take it.
     Gapped {
         msg: Msg,
-        has: Vector,
+        has: PackedVector,
     },
     /// The destination was to be given a message that was not sent.
     Missing {
@@ -60,13 +60,13 @@ pub enum Event {
         client: u32,
         name: Name,
         reply: Reply,
-        at: Vector,
+        at: PackedVector,
     },
     /// A client's write or read was refused: it has seen more than the node's vector.
     Behind {
         client: u32,
-        needs: Vector,
-        has: Vector,
+        needs: PackedVector,
+        has: PackedVector,
     },
     /// A client came to this node.
     Moved {
@@ -74,7 +74,7 @@ pub enum Event {
     },
     /// The node's log was truncated up to this vector.
     Cut {
-        at: Vector,
+        at: PackedVector,
     },
     /// The node dropped its bodies of a name.
     Dropped {
@@ -87,9 +87,9 @@ pub enum Event {
     },
     /// The node's vectors were asked for: its own, its cut, its floor, and of each set the last precise one.
     State {
-        at: Vector,
-        cut: Vector,
-        floor: Vector,
+        at: PackedVector,
+        cut: PackedVector,
+        floor: PackedVector,
         precise: Seq<Vector>,
     },
 }

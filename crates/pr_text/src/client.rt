@@ -11,7 +11,7 @@ use pr_names::Name;
 use pr_script::{Bytes, Decls, Kind, print_text};
 use pr_stamps::NoMemory;
 use pr_story::Reply;
-use pr_vectors::Vector;
+use pr_vectors::PackedVector;
 
 /// A client's write or delete was accepted.
 pub fn push_wrote(
@@ -19,7 +19,7 @@ pub fn push_wrote(
     client: u32,
     write: &WriteRec,
     body: &[u8],
-    after: &Vector,
+    after: &PackedVector,
     text: &mut Bytes,
 ) -> Result<(), NoMemory>
     ensures { OnOk result (text.new ≡ text.old ++ sentence decls.now.list 0 (events.Wrote client write.now body.now after.now)) }
@@ -45,7 +45,7 @@ pub fn push_answered(
     client: u32,
     name: &Name,
     reply: &Reply,
-    at: &Vector,
+    at: &PackedVector,
     text: &mut Bytes,
 ) -> Result<(), NoMemory>
     ensures { OnOk result (text.new ≡ text.old ++ sentence decls.now.list 0 (events.Answered client name.now reply.now at.now)) }
@@ -60,8 +60,8 @@ pub fn push_answered(
 pub fn push_behind(
     decls: &Decls,
     client: u32,
-    needs: &Vector,
-    has: &Vector,
+    needs: &PackedVector,
+    has: &PackedVector,
     text: &mut Bytes,
 ) -> Result<(), NoMemory>
     ensures { OnOk result (text.new ≡ text.old ++ sentence decls.now.list 0 (events.Behind client needs.now has.now)) }

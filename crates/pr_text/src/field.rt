@@ -4,14 +4,14 @@ ghost use Rattle.pr_text.specs.Texts.{more, stamp_text, vector_text};
 ghost use Rattle.pr_sets.specs.Text.{set_text};
 ghost use Rattle.std.specs.Prelude.{◌≡◌, ◌++◌, ◌∷◌, [], OnOk};
 
+use crate::packed::push_packed;
 use crate::stamp::{push_prev, push_stamp};
-use crate::vector::push_vector;
 use pr_inval::WriteRec;
 use pr_names::Name;
 use pr_script::{Bytes, Decls};
 use pr_sets::NameSet;
 use pr_stamps::{NoMemory, Stamp};
-use pr_vectors::Vector;
+use pr_vectors::PackedVector;
 
 /// Adds a space and the word.
 pub fn push_word(word: &[u8], text: &mut Bytes) -> Result<(), NoMemory>
@@ -48,14 +48,14 @@ pub fn push_stamp_field(decls: &Decls, stamp: &Stamp, text: &mut Bytes) -> Resul
 pub fn push_at(
     word: &[u8],
     decls: &Decls,
-    vector: &Vector,
+    vector: &PackedVector,
     text: &mut Bytes,
 ) -> Result<(), NoMemory>
     ensures { OnOk result (text.new ≡ text.old ++ 32 ∷ (word.now ++ 32 ∷ vector_text decls.now.list vector.now)) }
 {
     push_word(word, text)?;
     text.push(b' ')?;
-    push_vector(decls, vector, text)
+    push_packed(decls, vector, text)
 }
 
 /// Adds the write's stamp, and the newest one of its name before it.
@@ -70,8 +70,8 @@ pub fn push_over(decls: &Decls, write: &WriteRec, text: &mut Bytes) -> Result<()
 /// Adds the vectors where a message starts and ends.
 pub fn push_span(
     decls: &Decls,
-    from: &Vector,
-    to: &Vector,
+    from: &PackedVector,
+    to: &PackedVector,
     text: &mut Bytes,
 ) -> Result<(), NoMemory>
     ensures { OnOk result (text.new ≡ text.old ++ more 32 (span_fields decls.now.list from.now to.now)) }

@@ -13,6 +13,7 @@ mod label;
 mod law;
 mod message;
 mod node;
+mod packed;
 pub mod plain;
 mod rows;
 mod stamp;

@@ -13,7 +13,7 @@ use pr_inval::{Kind, Row, WriteRec};
 use pr_script::{Bytes, Decls, print_text};
 use pr_sets::NameSet;
 use pr_stamps::NoMemory;
-use pr_vectors::Vector;
+use pr_vectors::{PackedVector, Vector};
 
 /// Adds what the message tells.
 pub fn push_kind(decls: &Decls, kind: &Kind, text: &mut Bytes) -> Result<(), NoMemory>
@@ -39,8 +39,8 @@ pub fn push_kind(decls: &Decls, kind: &Kind, text: &mut Bytes) -> Result<(), NoM
 
 fn push_precise(
     decls: &Decls,
-    from: &Vector,
-    to: &Vector,
+    from: &PackedVector,
+    to: &PackedVector,
     write: &WriteRec,
     text: &mut Bytes,
 ) -> Result<(), NoMemory>
@@ -60,8 +60,8 @@ fn kind_word(gone: bool) -> &'static [u8]
 
 fn push_imprecise(
     decls: &Decls,
-    from: &Vector,
-    to: &Vector,
+    from: &PackedVector,
+    to: &PackedVector,
     target: &NameSet,
     text: &mut Bytes,
 ) -> Result<(), NoMemory>
@@ -74,9 +74,9 @@ fn push_imprecise(
 
 fn push_checkpoint(
     decls: &Decls,
-    to: &Vector,
+    to: &PackedVector,
     target: &NameSet,
-    floor: &Vector,
+    floor: &PackedVector,
     rows: &[Row],
     text: &mut Bytes,
 ) -> Result<(), NoMemory>
@@ -95,7 +95,7 @@ pub fn start_of(kind: &Kind) -> Vector
     ensures { result ≡ from_of kind.now }
 {
     match kind {
-        Kind::Precise { from, .. } | Kind::Imprecise { from, .. } => *from,
+        Kind::Precise { from, .. } | Kind::Imprecise { from, .. } => from.get(),
         Kind::Checkpoint { .. } | Kind::Body { .. } => Vector::zero(),
     }
 }

@@ -12,10 +12,15 @@ use pr_names::Name;
 use pr_script::{Bytes, Decls, Kind};
 use pr_stamps::NoMemory;
 use pr_story::Found;
-use pr_vectors::Vector;
+use pr_vectors::{PackedVector, Vector};
 
 /// The node's log was truncated.
-pub fn push_cut(decls: &Decls, node: u32, at: &Vector, text: &mut Bytes) -> Result<(), NoMemory>
+pub fn push_cut(
+    decls: &Decls,
+    node: u32,
+    at: &PackedVector,
+    text: &mut Bytes,
+) -> Result<(), NoMemory>
     ensures { OnOk result (text.new ≡ text.old ++ sentence decls.now.list node (events.Cut at.now)) }
 {
     push_about(b"cut", decls, Kind::Node, node, text)?;
@@ -49,9 +54,9 @@ pub fn push_conflicts(
 pub fn push_state(
     decls: &Decls,
     node: u32,
-    at: &Vector,
-    cut: &Vector,
-    floor: &Vector,
+    at: &PackedVector,
+    cut: &PackedVector,
+    floor: &PackedVector,
     precise: &[Vector],
     text: &mut Bytes,
 ) -> Result<(), NoMemory>

@@ -1,25 +1,27 @@
 // The events of streams.
 ghost use Rattle.pr_script.specs.Printing.{label_text};
 ghost use Rattle.pr_text.specs.Lines.{cause_text, sentence};
+ghost use Rattle.pr_text.specs.Texts.{vector_text};
 ghost use Rattle.pr_script.specs.declared.kind.Kind.TheVariants as kinds;
 ghost use Rattle.pr_story.specs.declared.event.Event.TheVariants as events;
-ghost use Rattle.std.specs.Prelude.{◌≡◌, ◌++◌, ◌∷◌, OnOk, decimal};
+ghost use Rattle.std.specs.Prelude.{◌≡◌, ◌++◌, ◌∷◌, OnOk, codes, decimal};
 
 use crate::field::{push_at, push_word};
 use crate::label::push_about;
 use crate::message::{push_kind, start_of};
 use crate::stamp::push_number;
+use crate::vector::push_vector;
 use pr_inval::Msg;
 use pr_script::{Bytes, Decls, Kind};
 use pr_stamps::NoMemory;
 use pr_story::Cause;
-use pr_vectors::Vector;
+use pr_vectors::{PackedVector, Vector};
 
 /// The stream began, or began again.
 pub fn push_attached(
     decls: &Decls,
     stream: u32,
-    at: &Vector,
+    at: &PackedVector,
     text: &mut Bytes,
 ) -> Result<(), NoMemory>
     ensures { OnOk result (text.new ≡ text.old ++ sentence decls.now.list 0 (events.Attached stream at.now)) }
@@ -47,7 +49,7 @@ pub fn push_idle(decls: &Decls, stream: u32, text: &mut Bytes) -> Result<(), NoM
 pub fn push_stale(
     decls: &Decls,
     stream: u32,
-    cut: &Vector,
+    cut: &PackedVector,
     text: &mut Bytes,
 ) -> Result<(), NoMemory>
     ensures { OnOk result (text.new ≡ text.old ++ sentence decls.now.list 0 (events.Stale stream cut.now)) }
@@ -60,7 +62,7 @@ pub fn push_stale(
 pub fn push_accepted(
     decls: &Decls,
     msg: &Msg,
-    at: &Vector,
+    at: &PackedVector,
     text: &mut Bytes,
 ) -> Result<(), NoMemory>
     ensures { OnOk result (text.new ≡ text.old ++ sentence decls.now.list 0 (events.Accepted msg.now at.now)) }
@@ -70,12 +72,24 @@ pub fn push_accepted(
 }
 
 /// The destination lacks what comes before a message.
-pub fn push_gapped(decls: &Decls, msg: &Msg, has: &Vector, text: &mut Bytes) -> Result<(), NoMemory>
+pub fn push_gapped(
+    decls: &Decls,
+    msg: &Msg,
+    has: &PackedVector,
+    text: &mut Bytes,
+) -> Result<(), NoMemory>
     ensures { OnOk result (text.new ≡ text.old ++ sentence decls.now.list 0 (events.Gapped msg.now has.now)) }
 {
     push_message(b"gap", decls, msg, text)?;
-    push_at(b"needs", decls, &start_of(&msg.kind), text)?;
+    push_needs(decls, &start_of(&msg.kind), text)?;
     push_at(b"has", decls, has, text)
+}
+
+fn push_needs(decls: &Decls, start: &Vector, text: &mut Bytes) -> Result<(), NoMemory>
+    ensures { OnOk result (text.new ≡ text.old ++ 32 ∷ (codes "needs" ++ 32 ∷ vector_text decls.now.list start.now)) }
+{
+    text.extend(b" needs ")?;
+    push_vector(decls, start, text)
 }
 
 /// No message of this number was sent.

@@ -7,7 +7,7 @@ use pr_script::{Bytes, Decls, read};
 use pr_sets::NameSet;
 use pr_stamps::{Mark, Seq, Stamp};
 use pr_story::{Cause, Event, Found, Reply};
-use pr_vectors::Vector;
+use pr_vectors::{PackedVector, Vector};
 use std::alloc::Global;
 
 const HEADS: &[u8] =
@@ -24,17 +24,16 @@ fn decls(alloc: Global) -> Option<Decls> {
 
 // Whether the event at B has this line, in place of what was there.
 fn says(alloc: Global, decls: &Decls, event: Option<Event>, text: &[u8]) -> bool {
-    match (event, bytes(alloc, b"before\n")) {
-        (Some(event), Some(out)) => makes(decls, &event, out, text),
-        _ => false,
+    match event {
+        Some(event) => makes(alloc, decls, &event, text).unwrap_or(false),
+        None => false,
     }
 }
 
-fn makes(decls: &Decls, event: &Event, mut out: Bytes, text: &[u8]) -> bool {
-    match line(decls, 1, event, &mut out) {
-        Ok(()) => out.as_slice() == text,
-        Err(_) => false,
-    }
+fn makes(alloc: Global, decls: &Decls, event: &Event, text: &[u8]) -> Option<bool> {
+    let mut out = bytes(alloc, b"before\n")?;
+    line(decls, 1, event, &mut out).ok()?;
+    Some(out.as_slice() == text)
 }
 
 fn bytes(alloc: Global, text: &[u8]) -> Option<Bytes> {
@@ -61,6 +60,10 @@ fn vector(a: u64, b: u64) -> Vector {
     vector
 }
 
+fn packed(alloc: Global, a: u64, b: u64) -> Option<PackedVector> {
+    PackedVector::of(alloc, &vector(a, b)).ok()
+}
+
 fn write(gone: bool) -> Option<WriteRec> {
     let name = name(b"a/x")?;
     let stamp = Stamp::new(3, 1)?;
@@ -72,24 +75,28 @@ fn write(gone: bool) -> Option<WriteRec> {
     })
 }
 
-fn wrote(alloc: Global, gone: bool, body: &[u8], after: Vector) -> Option<Event> {
+fn wrote(alloc: Global, gone: bool, body: &[u8], after: u64) -> Option<Event> {
     let write = write(gone)?;
     let body = bytes(alloc, body)?;
     Some(Event::Wrote {
         client: 1,
         write,
         body,
-        after,
+        after: packed(alloc, after, 0)?,
     })
 }
 
 fn are_writes_told(alloc: Global) -> Option<bool> {
     let decls = decls(alloc)?;
     let text = b"write d a/x \"h \\22\\5c\\0a\\ffi\" 3@B over 1@A after A:2\n";
-    let event = wrote(alloc, false, b"h \"\\\n\xffi", vector(2, 0));
-    let first = says(alloc, &decls, event, text);
-    let event = wrote(alloc, true, b"", vector(0, 0));
-    Some(first && says(alloc, &decls, event, b"delete d a/x 3@B over 1@A after -\n"))
+    let first = says(
+        alloc,
+        &decls,
+        wrote(alloc, false, b"h \"\\\n\xffi", 2),
+        text,
+    );
+    let text = b"delete d a/x 3@B over 1@A after -\n";
+    Some(first && says(alloc, &decls, wrote(alloc, true, b"", 0), text))
 }
 
 #[test]
@@ -111,11 +118,11 @@ fn sent(kind: Option<Kind>) -> Option<Event> {
     Some(Event::Sent { msg })
 }
 
-fn precise(gone: bool) -> Option<Kind> {
+fn precise(alloc: Global, gone: bool) -> Option<Kind> {
     let write = write(gone)?;
     Some(Kind::Precise {
-        from: vector(0, 0),
-        to: vector(1, 2),
+        from: packed(alloc, 0, 0)?,
+        to: packed(alloc, 1, 2)?,
         write,
     })
 }
@@ -123,8 +130,8 @@ fn precise(gone: bool) -> Option<Kind> {
 fn imprecise(alloc: Global) -> Option<Kind> {
     let target = set(alloc, b"b,a/*")?;
     Some(Kind::Imprecise {
-        from: vector(1, 0),
-        to: vector(1, 2),
+        from: packed(alloc, 1, 0)?,
+        to: packed(alloc, 1, 2)?,
         target,
     })
 }
@@ -142,8 +149,8 @@ fn are_messages_told(alloc: Global) -> Option<bool> {
     let gone = b"send t 17 gone a/x 3@B over 1@A from - to A:1,B:2\n";
     let coarsely = b"send t 17 imprecise a/*,b from A:1 to A:1,B:2\n";
     Some(
-        says(alloc, &decls, sent(precise(false)), precisely)
-            && says(alloc, &decls, sent(precise(true)), gone)
+        says(alloc, &decls, sent(precise(alloc, false)), precisely)
+            && says(alloc, &decls, sent(precise(alloc, true)), gone)
             && says(alloc, &decls, sent(imprecise(alloc)), coarsely)
             && says(
                 alloc,
@@ -192,25 +199,32 @@ fn rows(alloc: Global) -> Option<Seq<Row>> {
     Some(rows)
 }
 
-fn checkpoint(target: Option<NameSet>, rows: Option<Seq<Row>>) -> Option<Kind> {
-    let target = target?;
-    let rows = rows?;
+fn checkpoint(alloc: Global, target: &[u8], rows: Option<Seq<Row>>) -> Option<Kind> {
     Some(Kind::Checkpoint {
-        to: vector(3, 1),
-        target,
-        floor: vector(1, 0),
-        rows,
+        to: packed(alloc, 3, 1)?,
+        target: set(alloc, target)?,
+        floor: packed(alloc, 1, 0)?,
+        rows: rows?,
     })
+}
+
+// Whether a checkpoint of this target and these rows has this line.
+fn is_checkpoint(
+    alloc: Global,
+    decls: &Decls,
+    target: &[u8],
+    rows: Option<Seq<Row>>,
+    text: &[u8],
+) -> bool {
+    says(alloc, decls, sent(checkpoint(alloc, target, rows)), text)
 }
 
 fn are_checkpoints_told(alloc: Global) -> Option<bool> {
     let decls = decls(alloc)?;
     let text = b"send t 17 checkpoint ~ to A:3,B:1 floor A:1 rows a/x=3@B(1@A<-;3@B<1@A),b!2@A()\n";
-    let event = sent(checkpoint(set(alloc, b"~"), rows(alloc)));
-    let first = says(alloc, &decls, event, text);
+    let first = is_checkpoint(alloc, &decls, b"~", rows(alloc), text);
     let text = b"send t 17 checkpoint * to A:3,B:1 floor A:1 rows -\n";
-    let event = sent(checkpoint(set(alloc, b"*"), Some(Seq::new(alloc))));
-    Some(first && says(alloc, &decls, event, text))
+    Some(first && is_checkpoint(alloc, &decls, b"*", Some(Seq::new(alloc)), text))
 }
 
 #[test]
@@ -218,24 +232,28 @@ fn checkpoints(rt: HostRuntime) {
     assert!(rt; are_checkpoints_told(rt.alloc()).unwrap_or(false));
 }
 
+fn attached(alloc: Global) -> Option<Event> {
+    let at = packed(alloc, 0, 4)?;
+    Some(Event::Attached { stream: 1, at })
+}
+
+fn stale(alloc: Global) -> Option<Event> {
+    let cut = packed(alloc, 7, 0)?;
+    Some(Event::Stale { stream: 1, cut })
+}
+
+fn missing(stream: u32) -> Option<Event> {
+    Some(Event::Missing { stream, number: 0 })
+}
+
 fn are_streams_told(alloc: Global) -> Option<bool> {
     let decls = decls(alloc)?;
-    let (stream, at, cut) = (1, vector(0, 4), vector(7, 0));
-    let missing = Event::Missing { stream, number: 0 };
+    let stream = 1;
     Some(
-        says(
-            alloc,
-            &decls,
-            Some(Event::Attached { stream, at }),
-            b"attach t at B:4\n",
-        ) && says(alloc, &decls, Some(Event::Idle { stream }), b"idle t\n")
-            && says(
-                alloc,
-                &decls,
-                Some(Event::Stale { stream, cut }),
-                b"stale t cut A:7\n",
-            )
-            && says(alloc, &decls, Some(missing), b"missing t 0\n"),
+        says(alloc, &decls, attached(alloc), b"attach t at B:4\n")
+            && says(alloc, &decls, Some(Event::Idle { stream }), b"idle t\n")
+            && says(alloc, &decls, stale(alloc), b"stale t cut A:7\n")
+            && says(alloc, &decls, missing(stream), b"missing t 0\n"),
     )
 }
 
@@ -244,22 +262,22 @@ fn streams(rt: HostRuntime) {
     assert!(rt; are_streams_told(rt.alloc()).unwrap_or(false));
 }
 
-fn accepted(kind: Option<Kind>, at: Vector) -> Option<Event> {
-    let msg = message(0, 2, kind?);
+fn accepted(alloc: Global) -> Option<Event> {
+    let at = packed(alloc, 1, 2)?;
+    let msg = message(0, 2, precise(alloc, false)?);
     Some(Event::Accepted { msg, at })
 }
 
-fn gapped(kind: Option<Kind>, has: Vector) -> Option<Event> {
-    let msg = message(0, 2, kind?);
+fn gapped(alloc: Global) -> Option<Event> {
+    let has = packed(alloc, 0, 1)?;
+    let msg = message(0, 2, imprecise(alloc)?);
     Some(Event::Gapped { msg, has })
 }
 
 fn are_arrivals_told(alloc: Global) -> Option<bool> {
     let decls = decls(alloc)?;
-    let accepted = accepted(precise(false), vector(1, 2));
-    let taken = says(alloc, &decls, accepted, b"accept s 2 at A:1,B:2\n");
-    let gapped = gapped(imprecise(alloc), vector(0, 1));
-    Some(taken && says(alloc, &decls, gapped, b"gap s 2 needs A:1 has B:1\n"))
+    let taken = says(alloc, &decls, accepted(alloc), b"accept s 2 at A:1,B:2\n");
+    Some(taken && says(alloc, &decls, gapped(alloc), b"gap s 2 needs A:1 has B:1\n"))
 }
 
 #[test]
@@ -285,18 +303,18 @@ fn ends_of_flows(rt: HostRuntime) {
     assert!(rt; are_ends_told(rt.alloc()).unwrap_or(false));
 }
 
-fn answered(reply: Reply) -> Option<Event> {
+fn answered(alloc: Global, reply: Reply) -> Option<Event> {
     let name = name(b"b")?;
     Some(Event::Answered {
         client: 0,
         name,
         reply,
-        at: vector(1, 0),
+        at: packed(alloc, 1, 0)?,
     })
 }
 
 fn is_answer(alloc: Global, decls: &Decls, reply: Reply, text: &[u8]) -> bool {
-    says(alloc, decls, answered(reply), text)
+    says(alloc, decls, answered(alloc, reply), text)
 }
 
 fn are_answers_told(alloc: Global) -> Option<bool> {
@@ -316,15 +334,15 @@ fn answers(rt: HostRuntime) {
     assert!(rt; are_answers_told(rt.alloc()).unwrap_or(false));
 }
 
-fn value(bytes: Option<Bytes>) -> Option<Event> {
+fn value(alloc: Global, bytes: Option<Bytes>) -> Option<Event> {
     let stamp = Stamp::new(5, 0)?;
     let bytes = bytes?;
-    answered(Reply::Value { stamp, bytes })
+    answered(alloc, Reply::Value { stamp, bytes })
 }
 
 fn are_values_told(alloc: Global) -> Option<bool> {
     let decls = decls(alloc)?;
-    let event = value(bytes(alloc, b""));
+    let event = value(alloc, bytes(alloc, b""));
     Some(says(alloc, &decls, event, b"read c b value 5@A \"\" at A:1\n"))
 }
 
@@ -338,14 +356,26 @@ fn dropped() -> Option<Event> {
     Some(Event::Dropped { name })
 }
 
+fn behind(alloc: Global) -> Option<Event> {
+    Some(Event::Behind {
+        client: 1,
+        needs: packed(alloc, 0, 9)?,
+        has: packed(alloc, 0, 0)?,
+    })
+}
+
+fn cut(alloc: Global) -> Option<Event> {
+    let at = packed(alloc, 2, 0)?;
+    Some(Event::Cut { at })
+}
+
 fn are_clients_told(alloc: Global) -> Option<bool> {
     let decls = decls(alloc)?;
-    let (client, needs, has, at) = (1, vector(0, 9), vector(0, 0), vector(2, 0));
-    let behind = Event::Behind { client, needs, has };
+    let client = 1;
     Some(
-        says(alloc, &decls, Some(behind), b"behind d needs B:9 has -\n")
+        says(alloc, &decls, behind(alloc), b"behind d needs B:9 has -\n")
             && says(alloc, &decls, Some(Event::Moved { client }), b"move d B\n")
-            && says(alloc, &decls, Some(Event::Cut { at }), b"cut B at A:2\n")
+            && says(alloc, &decls, cut(alloc), b"cut B at A:2\n")
             && says(alloc, &decls, dropped(), b"drop B a/x\n"),
     )
 }
@@ -368,22 +398,31 @@ fn pairs(alloc: Global) -> Option<Seq<(Stamp, Stamp)>> {
     Some(pairs)
 }
 
+fn no_conflicts(alloc: Global) -> Option<Event> {
+    conflicts(Found::Pairs(Seq::new(alloc)))
+}
+
+fn untold() -> Option<Event> {
+    let untold = Stamp::new(1, 0)?;
+    conflicts(Found::Imprecise { untold })
+}
+
 fn two_conflicts(alloc: Global) -> Option<Event> {
     conflicts(Found::Pairs(pairs(alloc)?))
 }
 
 fn are_conflicts_told(alloc: Global) -> Option<bool> {
-    let (untold, decls) = (Stamp::new(1, 0)?, decls(alloc)?);
-    let none = Found::Pairs(Seq::new(alloc));
-    let first = says(alloc, &decls, conflicts(none), b"conflicts B a/x -\n");
-    let second = says(
-        alloc,
-        &decls,
-        two_conflicts(alloc),
-        b"conflicts B a/x 1@A|1@B,1@B|2@A\n",
-    );
-    let untold = conflicts(Found::Imprecise { untold });
-    Some(first && second && says(alloc, &decls, untold, b"conflicts B a/x imprecise 1@A\n"))
+    let decls = decls(alloc)?;
+    Some(
+        says(alloc, &decls, no_conflicts(alloc), b"conflicts B a/x -\n")
+            && says(
+                alloc,
+                &decls,
+                two_conflicts(alloc),
+                b"conflicts B a/x 1@A|1@B,1@B|2@A\n",
+            )
+            && says(alloc, &decls, untold(), b"conflicts B a/x imprecise 1@A\n"),
+    )
 }
 
 #[test]
@@ -396,9 +435,9 @@ fn state(alloc: Global) -> Option<Event> {
     precise.push(vector(2, 0)).ok()?;
     precise.push(vector(0, 0)).ok()?;
     Some(Event::State {
-        at: vector(2, 1),
-        cut: vector(0, 0),
-        floor: vector(1, 0),
+        at: packed(alloc, 2, 1)?,
+        cut: packed(alloc, 0, 0)?,
+        floor: packed(alloc, 1, 0)?,
         precise,
     })
 }

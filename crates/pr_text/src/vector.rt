@@ -33,14 +33,15 @@ fn push_clocks(labels: &[Bytes], vector: &Vector, text: &mut Bytes) -> Result<()
     push_hyphen(some, text)
 }
 
-// Adds a hyphen where there is nothing.
-fn push_hyphen(some: bool, text: &mut Bytes) -> Result<(), NoMemory>
+/// Adds a hyphen where there is nothing.
+pub fn push_hyphen(some: bool, text: &mut Bytes) -> Result<(), NoMemory>
     ensures { OnOk result (text.new ≡ text.old ++ cond some [] (45 ∷ [])) }
 {
     if some { Ok(()) } else { text.push(b'-') }
 }
 
-fn push_clock(some: bool, label: &[u8], clock: u64, text: &mut Bytes) -> Result<(), NoMemory>
+/// Adds one clock, behind a comma where some stand before it.
+pub fn push_clock(some: bool, label: &[u8], clock: u64, text: &mut Bytes) -> Result<(), NoMemory>
     ensures { OnOk result (text.new ≡ text.old ++ cond some (44 ∷ []) [] ++ label.now ++ 58 ∷ decimal clock) }
 {
     if some {

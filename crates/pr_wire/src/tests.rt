@@ -80,7 +80,7 @@ fn frame_1_is_read_and_written_in_56_bytes(rt: HostRuntime) -> Result<(), Fail> 
     let msg = next_message(&mut feed)?;
     assert_eq!(rt; (msg.time, msg.stream, msg.number), (2, 0, 1));
     if let Kind::Precise { from, to, write } = &msg.kind {
-        assert_eq!(rt; (from.at(0), to.at(0), to.greatest()), (0, 1, 1));
+        assert_eq!(rt; (from.at(0), to.at(0), to.get().greatest()), (0, 1, 1));
         assert_eq!(rt; write.name.bytes(), b"a/x".as_slice());
         assert_eq!(rt;
             (
@@ -106,7 +106,7 @@ fn frame_2_is_read(rt: HostRuntime) -> Result<(), Fail> {
     let msg = next_message(&mut feed)?;
     assert_eq!(rt; (msg.time, msg.stream, msg.number), (3, 0, 1));
     if let Kind::Imprecise { from, to, target } = &msg.kind {
-        assert_eq!(rt; (from.at(0), to.at(0), to.greatest()), (0, 1, 1));
+        assert_eq!(rt; (from.at(0), to.at(0), to.get().greatest()), (0, 1, 1));
         let mut text = Seq::new(rt.alloc());
         target.print(&mut text).ok().ok_or("no memory")?;
         assert_eq!(rt; text.as_slice(), b"b/y".as_slice());

@@ -10,11 +10,11 @@ use crate::writers::Told;
 use pr_inval::{Kind, Msg, WriteRec};
 use pr_names::Name;
 use pr_stamps::{Seq, Stamp};
-use pr_vectors::Vector;
+use pr_vectors::{PackedVector, Vector};
 use std::alloc::Global;
 
 /// The precise invalidation of the write.
-pub fn precise(told: &Told) -> Result<Msg, Failed>
+pub fn precise(alloc: Global, told: &Told) -> Result<Msg, Failed>
     ensures { IfOk result IsMessage }
 {
     let Told { from, to, write } = told;
@@ -25,8 +25,8 @@ pub fn precise(told: &Told) -> Result<Msg, Failed>
         return Err(Failed);
     }
     let kind = Kind::Precise {
-        from: *from,
-        to: *to,
+        from: PackedVector::of(alloc, from)?,
+        to: PackedVector::of(alloc, to)?,
         write: *write,
     };
     Ok(message(&write.stamp, kind))
@@ -43,8 +43,8 @@ pub fn imprecise(alloc: Global, told: &Told) -> Result<Msg, Failed>
     let target = set_of(alloc, &write.name)?;
     let _ = target.parts();
     let kind = Kind::Imprecise {
-        from: *from,
-        to: *to,
+        from: PackedVector::of(alloc, from)?,
+        to: PackedVector::of(alloc, to)?,
         target,
     };
     Ok(message(&write.stamp, kind))

@@ -54,7 +54,7 @@ impl Known {
     }
 
     fn accept_write(&mut self) -> Result<(), Failed> {
-        let msg = self.writers.precise()?;
+        let msg = self.writers.precise(self.alloc)?;
         let _ = self.node.accept(CALLER, msg)?;
         Ok(())
     }

@@ -45,11 +45,11 @@ impl Writers {
     }
 
     /// The precise invalidation of the next write.
-    pub fn precise(&mut self) -> Result<Msg, Failed>
+    pub fn precise(&mut self, alloc: Global) -> Result<Msg, Failed>
         ensures { IfOk result IsMessage }
     {
         let told = self.write()?;
-        precise(&told)
+        precise(alloc, &told)
     }
 
     /// An imprecise invalidation in place of it.

@@ -25,10 +25,10 @@ fn event_by(cursor: &mut Cursor, alloc: Global, kind: u8) -> Result<Event, Fault
 {
     match kind {
         1 => wrote(cursor, alloc),
-        2 => attached(cursor),
+        2 => attached(cursor, alloc),
         3 => sent(cursor, alloc),
         4 => idle(cursor),
-        5 => stale(cursor),
+        5 => stale(cursor, alloc),
         6 => accepted(cursor, alloc),
         7 => gapped(cursor, alloc),
         8 => missing(cursor),
@@ -43,7 +43,7 @@ fn wrote(cursor: &mut Cursor, alloc: Global) -> Result<Event, Fault>
     let client = cursor.four()?;
     let write = write(cursor)?;
     let body = counted(cursor, alloc)?;
-    let after = cursor.vector()?;
+    let after = cursor.packed_vector(alloc)?;
     Ok(Event::Wrote {
         client,
         write,
@@ -53,11 +53,11 @@ fn wrote(cursor: &mut Cursor, alloc: Global) -> Result<Event, Fault>
 }
 
 #[tactic(auto, unfolding(crate::specs::Reading::attached_at))]
-fn attached(cursor: &mut Cursor) -> Result<Event, Fault>
+fn attached(cursor: &mut Cursor, alloc: Global) -> Result<Event, Fault>
     ensures { Gives (λ x. (x, cursor.new.rest.now)) result (attached_at cursor.old.rest.now) }
 {
     let stream = cursor.four()?;
-    let at = cursor.vector()?;
+    let at = cursor.packed_vector(alloc)?;
     Ok(Event::Attached { stream, at })
 }
 
@@ -78,11 +78,11 @@ fn idle(cursor: &mut Cursor) -> Result<Event, Fault>
 }
 
 #[tactic(auto, unfolding(crate::specs::Reading::stale_at))]
-fn stale(cursor: &mut Cursor) -> Result<Event, Fault>
+fn stale(cursor: &mut Cursor, alloc: Global) -> Result<Event, Fault>
     ensures { Gives (λ x. (x, cursor.new.rest.now)) result (stale_at cursor.old.rest.now) }
 {
     let stream = cursor.four()?;
-    let cut = cursor.vector()?;
+    let cut = cursor.packed_vector(alloc)?;
     Ok(Event::Stale { stream, cut })
 }
 
@@ -91,7 +91,7 @@ fn accepted(cursor: &mut Cursor, alloc: Global) -> Result<Event, Fault>
     ensures { Gives (λ x. (x, cursor.new.rest.now)) result (accepted_at cursor.old.rest.now) }
 {
     let msg = frame(cursor, alloc)?;
-    let at = cursor.vector()?;
+    let at = cursor.packed_vector(alloc)?;
     Ok(Event::Accepted { msg, at })
 }
 
@@ -100,7 +100,7 @@ fn gapped(cursor: &mut Cursor, alloc: Global) -> Result<Event, Fault>
     ensures { Gives (λ x. (x, cursor.new.rest.now)) result (gapped_at cursor.old.rest.now) }
 {
     let msg = frame(cursor, alloc)?;
-    let has = cursor.vector()?;
+    let has = cursor.packed_vector(alloc)?;
     Ok(Event::Gapped { msg, has })
 }
 

@@ -15,12 +15,12 @@ pub fn late_event_by(cursor: &mut Cursor, alloc: Global, kind: u8) -> Result<Eve
     match kind {
         9 => down(cursor),
         10 => answered(cursor, alloc),
-        11 => cut(cursor),
+        11 => cut(cursor, alloc),
         12 => dropped(cursor),
         13 => conflicts(cursor, alloc),
         14 => state(cursor, alloc),
         15 => moved(cursor),
-        16 => behind(cursor),
+        16 => behind(cursor, alloc),
         _ => Err(Fault::Bad),
     }
 }
@@ -41,7 +41,7 @@ fn answered(cursor: &mut Cursor, alloc: Global) -> Result<Event, Fault>
     let client = cursor.four()?;
     let name = cursor.name()?;
     let reply = reply(cursor, alloc)?;
-    let at = cursor.vector()?;
+    let at = cursor.packed_vector(alloc)?;
     Ok(Event::Answered {
         client,
         name,
@@ -51,10 +51,10 @@ fn answered(cursor: &mut Cursor, alloc: Global) -> Result<Event, Fault>
 }
 
 #[tactic(auto, unfolding(crate::specs::Reading::cut_at))]
-fn cut(cursor: &mut Cursor) -> Result<Event, Fault>
+fn cut(cursor: &mut Cursor, alloc: Global) -> Result<Event, Fault>
     ensures { Gives (λ x. (x, cursor.new.rest.now)) result (cut_at cursor.old.rest.now) }
 {
-    let at = cursor.vector()?;
+    let at = cursor.packed_vector(alloc)?;
     Ok(Event::Cut { at })
 }
 
@@ -79,9 +79,9 @@ fn conflicts(cursor: &mut Cursor, alloc: Global) -> Result<Event, Fault>
 fn state(cursor: &mut Cursor, alloc: Global) -> Result<Event, Fault>
     ensures { Gives (λ x. (x, cursor.new.rest.now)) result (state_at cursor.old.rest.now) }
 {
-    let at = cursor.vector()?;
-    let cut = cursor.vector()?;
-    let floor = cursor.vector()?;
+    let at = cursor.packed_vector(alloc)?;
+    let cut = cursor.packed_vector(alloc)?;
+    let floor = cursor.packed_vector(alloc)?;
     let precise = vectors(cursor, alloc)?;
     Ok(Event::State {
         at,
@@ -100,11 +100,11 @@ fn moved(cursor: &mut Cursor) -> Result<Event, Fault>
 }
 
 #[tactic(auto, unfolding(crate::specs::Reading::behind_at))]
-fn behind(cursor: &mut Cursor) -> Result<Event, Fault>
+fn behind(cursor: &mut Cursor, alloc: Global) -> Result<Event, Fault>
     ensures { Gives (λ x. (x, cursor.new.rest.now)) result (behind_at cursor.old.rest.now) }
 {
     let client = cursor.four()?;
-    let needs = cursor.vector()?;
-    let has = cursor.vector()?;
+    let needs = cursor.packed_vector(alloc)?;
+    let has = cursor.packed_vector(alloc)?;
     Ok(Event::Behind { client, needs, has })
 }

@@ -8,13 +8,13 @@ ghost use Rattle.pr_wire.specs.Spelling.{eight, four, list_text, name_text, spel
 ghost use Rattle.pr_wire.specs.declared.format.Format.TheVariants.{Two};
 ghost use Rattle.std.specs.Prelude.{◌≡◌, ◌<◌, ◌++◌, ◌∷◌, OnOk};
 
-use crate::spelling::fields::{append_clocks, append_counted, append_write};
+use crate::spelling::fields::{append_counted, append_packed, append_write};
 use crate::spelling::parts::{append_cause, append_found, append_reply, append_vectors};
 use pr_inval::{Bytes, Msg, WriteRec};
 use pr_names::Name;
 use pr_stamps::NoMemory;
 use pr_story::{Cause, Entry, Event, Found, Reply};
-use pr_vectors::Vector;
+use pr_vectors::{PackedVector, Vector};
 use pr_wire::{append_eight, append_four, append_name, encode};
 
 /// Adds an entry with its node, in time linear in what is added. After a refusal a beginning of it was added.
@@ -95,7 +95,7 @@ fn append_fields(event: &Event, out: &mut Bytes) -> Result<(), NoMemory>
         } => append_answered(*client, name, reply, at, out),
         Event::Behind { client, needs, has } => append_behind(*client, needs, has, out),
         Event::Moved { client } => append_four(*client, out),
-        Event::Cut { at } => append_clocks(at, out),
+        Event::Cut { at } => append_packed(at, out),
         Event::Dropped { name } => append_known_name(name, out),
         Event::Conflicts { name, found } => append_conflicts(name, found, out),
         Event::State {
@@ -125,21 +125,21 @@ fn append_message(msg: &Msg, out: &mut Bytes) -> Result<(), NoMemory>
     Ok(())
 }
 
-fn append_at(stream: u32, vector: &Vector, out: &mut Bytes) -> Result<(), NoMemory>
+fn append_at(stream: u32, vector: &PackedVector, out: &mut Bytes) -> Result<(), NoMemory>
     ensures text { OnOk result (out.new ≡ out.old ++ (four stream ++ vector_text vector.now)) }
     ensures range { OnOk result (IsVector vector.now) }
 {
     append_four(stream, out)?;
-    append_clocks(vector, out)
+    append_packed(vector, out)
 }
 
-fn append_taken(msg: &Msg, vector: &Vector, out: &mut Bytes) -> Result<(), NoMemory>
+fn append_taken(msg: &Msg, vector: &PackedVector, out: &mut Bytes) -> Result<(), NoMemory>
     requires { IsMessage msg.now }
     ensures text { OnOk result (out.new ≡ out.old ++ (spelling Two msg.now ++ vector_text vector.now)) }
     ensures range { OnOk result (IsFramed msg.now × IsVector vector.now) }
 {
     append_message(msg, out)?;
-    append_clocks(vector, out)
+    append_packed(vector, out)
 }
 
 fn append_missing(stream: u32, number: u64, out: &mut Bytes) -> Result<(), NoMemory>
@@ -160,7 +160,7 @@ fn append_wrote(
     client: u32,
     write: &WriteRec,
     body: &Bytes,
-    after: &Vector,
+    after: &PackedVector,
     out: &mut Bytes,
 ) -> Result<(), NoMemory>
     ensures text { OnOk result (out.new ≡ out.old ++ (four client ++ (write_text Two write.now ++ (counted_text body.now ++ vector_text after.now)))) }
@@ -169,14 +169,14 @@ fn append_wrote(
     append_four(client, out)?;
     append_write(write, out)?;
     append_counted(body, out)?;
-    append_clocks(after, out)
+    append_packed(after, out)
 }
 
 fn append_answered(
     client: u32,
     name: &Name,
     reply: &Reply,
-    at: &Vector,
+    at: &PackedVector,
     out: &mut Bytes,
 ) -> Result<(), NoMemory>
     ensures text { OnOk result (out.new ≡ out.old ++ (four client ++ (name_text name.now ++ (reply_text reply.now ++ vector_text at.now)))) }
@@ -185,16 +185,21 @@ fn append_answered(
     append_four(client, out)?;
     append_known_name(name, out)?;
     append_reply(reply, out)?;
-    append_clocks(at, out)
+    append_packed(at, out)
 }
 
-fn append_behind(client: u32, needs: &Vector, has: &Vector, out: &mut Bytes) -> Result<(), NoMemory>
+fn append_behind(
+    client: u32,
+    needs: &PackedVector,
+    has: &PackedVector,
+    out: &mut Bytes,
+) -> Result<(), NoMemory>
     ensures text { OnOk result (out.new ≡ out.old ++ (four client ++ (vector_text needs.now ++ vector_text has.now))) }
     ensures range { OnOk result (IsVector needs.now × IsVector has.now) }
 {
     append_four(client, out)?;
-    append_clocks(needs, out)?;
-    append_clocks(has, out)
+    append_packed(needs, out)?;
+    append_packed(has, out)
 }
 
 fn append_conflicts(name: &Name, found: &Found, out: &mut Bytes) -> Result<(), NoMemory>
@@ -206,17 +211,17 @@ fn append_conflicts(name: &Name, found: &Found, out: &mut Bytes) -> Result<(), N
 }
 
 fn append_state(
-    at: &Vector,
-    cut: &Vector,
-    floor: &Vector,
+    at: &PackedVector,
+    cut: &PackedVector,
+    floor: &PackedVector,
     precise: &[Vector],
     out: &mut Bytes,
 ) -> Result<(), NoMemory>
     ensures text { OnOk result (out.new ≡ out.old ++ (vector_text at.now ++ (vector_text cut.now ++ (vector_text floor.now ++ list_text vector_text precise.now)))) }
     ensures range { OnOk result (IsVector at.now × IsVector cut.now × IsVector floor.now × IsCountedList IsVector precise.now) }
 {
-    append_clocks(at, out)?;
-    append_clocks(cut, out)?;
-    append_clocks(floor, out)?;
+    append_packed(at, out)?;
+    append_packed(cut, out)?;
+    append_packed(floor, out)?;
     append_vectors(precise, out)
 }

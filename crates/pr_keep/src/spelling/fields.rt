@@ -8,7 +8,7 @@ ghost use Rattle.std.specs.Prelude.{◌≡◌, ◌++◌, OnOk};
 
 use pr_inval::{Bytes, WriteRec};
 use pr_stamps::{NoMemory, Stamp};
-use pr_vectors::Vector;
+use pr_vectors::{PackedVector, Vector};
 use pr_wire::{append_eight, append_name, append_stamp, append_vector};
 
 /// Bytes behind their count.
@@ -28,6 +28,14 @@ pub fn append_clocks(vector: &Vector, out: &mut Bytes) -> Result<(), NoMemory>
 {
     let _ = vector.at(0);
     append_vector(vector, out)
+}
+
+/// A packed vector, whose clocks are in range.
+pub fn append_packed(vector: &PackedVector, out: &mut Bytes) -> Result<(), NoMemory>
+    ensures text { OnOk result (out.new ≡ out.old ++ vector_text vector.now) }
+    ensures range { IsVector vector.now }
+{
+    append_vector(&vector.get(), out)
 }
 
 // A stamp, or none.

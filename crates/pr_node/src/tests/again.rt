@@ -7,7 +7,7 @@ use crate::{Answer, Done, Node};
 use pr_inval::WriteRec;
 use pr_stamps::{Seq, Stamp};
 use pr_story::{Entry, Event, Journal};
-use pr_vectors::Vector;
+use pr_vectors::{PackedVector, Vector};
 use std::alloc::Global;
 use std::test::Fail;
 
@@ -25,7 +25,7 @@ fn wrote(alloc: Global) -> Option<Entry>
         client: 1,
         write,
         body: Seq::copied(alloc, b"hi").ok()?,
-        after: Vector::zero(),
+        after: PackedVector::of(alloc, &Vector::zero()).ok()?,
     };
     Some(Entry {
         time: 1,

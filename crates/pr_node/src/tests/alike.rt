@@ -23,9 +23,21 @@ pub fn is_alike(alloc: Global, world: &mut World, call: &Call<'_>) -> Option<boo
     let node = world.node_of(call)?;
     let before = world.site(node)?.entries().len();
     let entry = expected::entry(alloc, world, call)?;
+    makes(alloc, world, call, node, before, &entry)
+}
+
+// Whether the call makes this entry alone, behind so many at the node.
+fn makes(
+    alloc: Global,
+    world: &mut World,
+    call: &Call<'_>,
+    node: u32,
+    before: usize,
+    entry: &Entry,
+) -> Option<bool> {
     act(alloc, world, call)?;
     world.note(&entry.event);
-    Some(is_added(world.site(node)?.entries(), before, &entry))
+    Some(is_added(world.site(node)?.entries(), before, entry))
 }
 
 // Whether behind so many entries the list has this one alone.

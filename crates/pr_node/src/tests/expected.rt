@@ -10,7 +10,7 @@ use pr_names::Name;
 use pr_stamps::{Seq, Stamp};
 use pr_story::plain::Next;
 use pr_story::{Entry, Event, plain};
-use pr_vectors::Vector;
+use pr_vectors::{PackedVector, Vector};
 use std::alloc::Global;
 
 /// The number of the caller that makes all calls.
@@ -41,15 +41,16 @@ fn heard(alloc: Global, world: &World, call: &Call<'_>) -> Option<u64> {
 fn event(alloc: Global, world: &World, site: &Site, call: &Call<'_>, time: u64) -> Option<Event> {
     match call {
         Call::Write(client, _, _, _) | Call::Delete(client, _, _) | Call::Read(client, _, _) => {
-            match behind(site, *client, &world.needs(call)) {
-                Some(event) => Some(event),
-                None => of_client(alloc, site, call),
+            let needs = world.needs(call);
+            if needs.le(&plain::current_vector(site.entries())) {
+                return of_client(alloc, site, call);
             }
+            behind(alloc, site, *client, &needs)
         }
         Call::Turn(stream) => turned(alloc, site, world.stream(*stream)?, time),
         Call::Checkpoint(stream) => snapped(alloc, site, world.stream(*stream)?, time),
         Call::Accept(_, _, _) | Call::Forged(_, _, _) => {
-            Some(taken(site, world.message(alloc, call)?))
+            taken(alloc, site, world.message(alloc, call)?)
         }
         _ => other(alloc, world, site, call),
     }
@@ -68,7 +69,7 @@ fn other(alloc: Global, world: &World, site: &Site, call: &Call<'_>) -> Option<E
             cause: *cause,
         }),
         Call::Cut(_) => Some(Event::Cut {
-            at: plain::current_vector(site.entries()),
+            at: vector(alloc, site)?,
         }),
         Call::Drop(_, o) => Some(Event::Dropped { name: name(o)? }),
         Call::Conflicts(_, o) => conflicts(alloc, site, o),
@@ -77,18 +78,23 @@ fn other(alloc: Global, world: &World, site: &Site, call: &Call<'_>) -> Option<E
     }
 }
 
+fn packed(alloc: Global, vector: &Vector) -> Option<PackedVector> {
+    PackedVector::of(alloc, vector).ok()
+}
+
+// What the node was told of.
+fn vector(alloc: Global, site: &Site) -> Option<PackedVector> {
+    packed(alloc, &plain::current_vector(site.entries()))
+}
+
 // ---- clients
 
-// A client that has seen more than the node was told of.
-fn behind(site: &Site, client: u32, needs: &Vector) -> Option<Event> {
-    let has = plain::current_vector(site.entries());
-    if needs.le(&has) {
-        return None;
-    }
+// A client has seen more than the node was told of.
+fn behind(alloc: Global, site: &Site, client: u32, needs: &Vector) -> Option<Event> {
     Some(Event::Behind {
         client,
-        needs: *needs,
-        has,
+        needs: packed(alloc, needs)?,
+        has: vector(alloc, site)?,
     })
 }
 
@@ -122,7 +128,7 @@ fn written(
             gone,
         },
         body: Seq::copied(alloc, body).ok()?,
-        after,
+        after: packed(alloc, &after)?,
     })
 }
 
@@ -137,7 +143,7 @@ fn answered(alloc: Global, site: &Site, client: u32, o: &[u8]) -> Option<Event> 
         client,
         name,
         reply: plain::answer(alloc, site.id, sets, entries, &name).ok()?,
-        at: plain::current_vector(entries),
+        at: vector(alloc, site)?,
     })
 }
 
@@ -145,9 +151,10 @@ fn answered(alloc: Global, site: &Site, client: u32, o: &[u8]) -> Option<Event> 
 
 fn attached(alloc: Global, site: &Site, stream: &Stream) -> Option<Event> {
     let (sets, names) = (site.sets.as_slice(), stream.session.sub());
+    let start = plain::start(alloc, site.id, sets, site.entries(), names).ok()?;
     Some(Event::Attached {
         stream: stream.session.stream(),
-        at: plain::start(alloc, site.id, sets, site.entries(), names).ok()?,
+        at: packed(alloc, &start)?,
     })
 }
 
@@ -168,7 +175,7 @@ fn turned(alloc: Global, site: &Site, stream: &Stream, time: u64) -> Option<Even
     match plain::turn(alloc, site.id, site.entries(), &stream.session).ok()? {
         Next::Stale(cut) => Some(Event::Stale {
             stream: number,
-            cut,
+            cut: packed(alloc, &cut)?,
         }),
         Next::Idle => Some(Event::Idle { stream: number }),
         Next::Send(kind) => sent(stream, kind, time),
@@ -182,19 +189,36 @@ fn snapped(alloc: Global, site: &Site, stream: &Stream, time: u64) -> Option<Eve
 }
 
 // A message that the node takes, or has a gap before.
-fn taken(site: &Site, msg: Msg) -> Event {
+fn taken(alloc: Global, site: &Site, msg: Msg) -> Option<Event> {
     let has = plain::current_vector(site.entries());
-    let at = match &msg.kind {
+    let at = vector_behind(&has, &msg.kind);
+    match packed(alloc, &at.unwrap_or(has)) {
+        Some(vector) => Some(arrival(msg, at.is_some(), vector)),
+        None => None,
+    }
+}
+
+// What the node has been told of behind a message, or none where there is a gap before it.
+fn vector_behind(has: &Vector, kind: &Kind) -> Option<Vector> {
+    match kind {
         Kind::Precise { from, to, .. } | Kind::Imprecise { from, to, .. } => {
-            if !from.le(&has) {
-                return Event::Gapped { msg, has };
+            if from.le(has) {
+                Some(has.join(&to.get()))
+            } else {
+                None
             }
-            has.join(to)
         }
-        Kind::Checkpoint { to, .. } => has.join(to),
-        Kind::Body { .. } => has,
-    };
-    Event::Accepted { msg, at }
+        Kind::Checkpoint { to, .. } => Some(has.join(&to.get())),
+        Kind::Body { .. } => Some(*has),
+    }
+}
+
+fn arrival(msg: Msg, is_taken: bool, vector: PackedVector) -> Event {
+    if is_taken {
+        Event::Accepted { msg, at: vector }
+    } else {
+        Event::Gapped { msg, has: vector }
+    }
 }
 
 // ---- what a node is asked
@@ -219,9 +243,9 @@ fn state(alloc: Global, site: &Site) -> Option<Event> {
         .push(plain::last_precise(site.id, entries, &rest))
         .ok()?;
     Some(Event::State {
-        at: plain::current_vector(entries),
-        cut: plain::cuts_of(entries),
-        floor: plain::floor_of(entries),
+        at: vector(alloc, site)?,
+        cut: packed(alloc, &plain::cuts_of(entries))?,
+        floor: packed(alloc, &plain::floor_of(entries))?,
         precise,
     })
 }

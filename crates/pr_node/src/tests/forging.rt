@@ -5,10 +5,10 @@ ghost use Rattle.std.specs.Prelude.{IfSome, IsTrue};
 
 use crate::ranges::{kind_in_range, write_in_range};
 use crate::tests::building::{name, set, vector};
-use crate::tests::call::{At, Forgery};
+use crate::tests::call::{At, Clocks, Forgery};
 use pr_inval::{Kind, Msg, WriteRec};
 use pr_stamps::{MAX, Seq, Stamp};
-use pr_vectors::Vector;
+use pr_vectors::{PackedVector, Vector};
 use std::alloc::Global;
 
 // A message that nobody sent, if it is one of the grammar.
@@ -27,13 +27,13 @@ pub fn forged(alloc: Global, time: u64, forgery: &Forgery<'_>) -> Option<Msg>
 fn kind(alloc: Global, forgery: &Forgery<'_>) -> Option<Kind> {
     match forgery {
         Forgery::Precise(o, at, prev, from, to) => Some(Kind::Precise {
-            from: vector(from),
-            to: vector(to),
+            from: packed(alloc, from)?,
+            to: packed(alloc, to)?,
             write: write(o, at, prev)?,
         }),
         Forgery::Imprecise(target, from, to) => Some(Kind::Imprecise {
-            from: vector(from),
-            to: vector(to),
+            from: packed(alloc, from)?,
+            to: packed(alloc, to)?,
             target: set(alloc, target)?,
         }),
         Forgery::Body(o, at, bytes) => Some(Kind::Body {
@@ -42,6 +42,10 @@ fn kind(alloc: Global, forgery: &Forgery<'_>) -> Option<Kind> {
             bytes: Seq::copied(alloc, bytes).ok()?,
         }),
     }
+}
+
+fn packed(alloc: Global, clocks: &Clocks) -> Option<PackedVector> {
+    PackedVector::of(alloc, &vector(clocks)).ok()
 }
 
 fn write(o: &[u8], at: &At, prev: &Option<At>) -> Option<WriteRec> {
@@ -87,8 +91,10 @@ fn is_kind(kind: &Kind) -> bool
 {
     kind_in_range(kind);
     match kind {
-        Kind::Precise { from, to, write } => from.le(to) && is_write(from, to, write),
-        Kind::Imprecise { from, to, .. } => from.le(to),
+        Kind::Precise { from, to, write } => {
+            from.le(&to.get()) && is_write(&from.get(), &to.get(), write)
+        }
+        Kind::Imprecise { from, to, .. } => from.le(&to.get()),
         Kind::Body { bytes, .. } => bytes.len() <= 65536,
         Kind::Checkpoint { .. } => false,
     }

@@ -12,18 +12,18 @@ pub fn is_same_entry(a: &Entry, b: &Entry) -> bool {
 fn is_same_event(a: &Event, b: &Event) -> bool {
     match a {
         Event::Attached { stream, at } => {
-            matches!(b, Event::Attached { stream: s, at: v } if s == stream && v == at)
+            matches!(b, Event::Attached { stream: s, at: v } if s == stream && v.get() == at.get())
         }
         Event::Sent { msg } => matches!(b, Event::Sent { msg: m } if is_same_message(m, msg)),
         Event::Idle { stream } => matches!(b, Event::Idle { stream: s } if s == stream),
         Event::Stale { stream, cut } => {
-            matches!(b, Event::Stale { stream: s, cut: v } if s == stream && v == cut)
+            matches!(b, Event::Stale { stream: s, cut: v } if s == stream && v.get() == cut.get())
         }
         Event::Accepted { msg, at } => {
-            matches!(b, Event::Accepted { msg: m, at: v } if v == at && is_same_message(m, msg))
+            matches!(b, Event::Accepted { msg: m, at: v } if v.get() == at.get() && is_same_message(m, msg))
         }
         Event::Gapped { msg, has } => {
-            matches!(b, Event::Gapped { msg: m, has: v } if v == has && is_same_message(m, msg))
+            matches!(b, Event::Gapped { msg: m, has: v } if v.get() == has.get() && is_same_message(m, msg))
         }
         Event::Missing { stream, number } => {
             matches!(b, Event::Missing { stream: s, number: n } if s == stream && n == number)
@@ -46,7 +46,7 @@ fn is_same_call(a: &Event, b: &Event) -> bool {
         } => matches!(
             b,
             Event::Wrote { client: c, write: w, body: s, after: v }
-                if c == client && w == write && v == after && s.as_slice() == body.as_slice()
+                if c == client && w == write && v.get() == after.get() && s.as_slice() == body.as_slice()
         ),
         Event::Answered {
             client,
@@ -56,14 +56,14 @@ fn is_same_call(a: &Event, b: &Event) -> bool {
         } => matches!(
             b,
             Event::Answered { client: c, name: o, reply: r, at: v }
-                if c == client && o == name && v == at && is_same_reply(r, reply)
+                if c == client && o == name && v.get() == at.get() && is_same_reply(r, reply)
         ),
         Event::Behind { client, needs, has } => matches!(
             b,
-            Event::Behind { client: c, needs: n, has: v } if c == client && n == needs && v == has
+            Event::Behind { client: c, needs: n, has: v } if c == client && n.get() == needs.get() && v.get() == has.get()
         ),
         Event::Moved { client } => matches!(b, Event::Moved { client: c } if c == client),
-        Event::Cut { at } => matches!(b, Event::Cut { at: v } if v == at),
+        Event::Cut { at } => matches!(b, Event::Cut { at: v } if v.get() == at.get()),
         Event::Dropped { name } => matches!(b, Event::Dropped { name: o } if o == name),
         Event::Conflicts { name, found } => {
             matches!(b, Event::Conflicts { name: o, found: f } if o == name && is_same_found(f, found))
@@ -76,7 +76,7 @@ fn is_same_call(a: &Event, b: &Event) -> bool {
         } => matches!(
             b,
             Event::State { at: v, cut: c, floor: f, precise: p }
-                if v == at && c == cut && f == floor && p.as_slice() == precise.as_slice()
+                if v.get() == at.get() && c.get() == cut.get() && f.get() == floor.get() && p.as_slice() == precise.as_slice()
         ),
         _ => false,
     }
@@ -113,12 +113,12 @@ fn is_same_message(a: &Msg, b: &Msg) -> bool {
 fn is_same_kind(a: &Kind, b: &Kind) -> bool {
     match a {
         Kind::Precise { from, to, write } => {
-            matches!(b, Kind::Precise { from: v, to: w, write: x } if v == from && w == to && x == write)
+            matches!(b, Kind::Precise { from: v, to: w, write: x } if v.get() == from.get() && w.get() == to.get() && x == write)
         }
         Kind::Imprecise { from, to, target } => matches!(
             b,
             Kind::Imprecise { from: v, to: w, target: t }
-                if v == from && w == to && is_same_set(t, target)
+                if v.get() == from.get() && w.get() == to.get() && is_same_set(t, target)
         ),
         Kind::Checkpoint {
             to,
@@ -128,7 +128,7 @@ fn is_same_kind(a: &Kind, b: &Kind) -> bool {
         } => matches!(
             b,
             Kind::Checkpoint { to: w, target: t, floor: f, rows: r }
-                if w == to && f == floor && is_same_set(t, target) && are_same_rows(r.as_slice(), rows.as_slice())
+                if w.get() == to.get() && f.get() == floor.get() && is_same_set(t, target) && are_same_rows(r.as_slice(), rows.as_slice())
         ),
         Kind::Body { name, stamp, bytes } => matches!(
             b,

@@ -69,11 +69,11 @@ impl World {
                 after,
                 ..
             } => {
-                let mut at = *after;
+                let mut at = after.get();
                 at.raise(&write.stamp);
                 self.raise(*client, &at);
             }
-            Event::Answered { client, at, .. } => self.raise(*client, at),
+            Event::Answered { client, at, .. } => self.raise(*client, &at.get()),
             _ => {}
         }
     }

@@ -21,12 +21,16 @@ fn seen_after(event: &Event, client: u32, seen: &Vector) -> Vector
             if *c != client {
                 return *seen;
             }
-            let mut raised = *after;
+            let mut raised = after.get();
             raised.raise(&write.stamp);
             seen.join(&raised)
         }
         Event::Answered { client: c, at, .. } => {
-            if *c == client { seen.join(at) } else { *seen }
+            if *c == client {
+                seen.join(&at.get())
+            } else {
+                *seen
+            }
         }
         _ => *seen,
     }

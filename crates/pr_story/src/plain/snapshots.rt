@@ -1,6 +1,9 @@
 // Checkpoints.
 ghost use Rattle.pr_names.specs.Name.{IsName};
 ghost use Rattle.pr_sets.specs.Spans.{IsAllBut, has};
+ghost use Rattle.pr_inval.specs.declared.kind.Kind.TheVariants as messages;
+ghost use Rattle.pr_story.specs.History.{current_vector};
+ghost use Rattle.pr_story.specs.Knowledge.{floor_of};
 ghost use Rattle.pr_story.specs.Marking.{AreAllRows, IsRowAdded, IsRowOf};
 ghost use Rattle.pr_story.specs.Told.{IsPrecise};
 ghost use Rattle.pr_sets.specs.Sets.{set_of};
@@ -19,6 +22,7 @@ use pr_inval::{Kind, Row};
 use pr_names::Name;
 use pr_sets::NameSet;
 use pr_stamps::{NoMemory, Seq};
+use pr_vectors::PackedVector;
 use std::alloc::Global;
 
 // ---- the target
@@ -147,6 +151,25 @@ fn rows(alloc: Global, entries: &[Entry], target: &NameSet) -> Result<Seq<Row>, 
     Ok(rows)
 }
 
+// The checkpoint of this target and these rows.
+fn checkpoint(
+    alloc: Global,
+    entries: &[Entry],
+    target: NameSet,
+    rows: Seq<Row>,
+) -> Result<Kind, NoMemory>
+    ensures { IfOk result (λ kind. kind ≡ messages.Checkpoint (current_vector (reverse entries.now)) target (floor_of (reverse entries.now)) rows) }
+{
+    let to = PackedVector::of(alloc, &current_vector(entries))?;
+    let floor = PackedVector::of(alloc, &floor_of(entries))?;
+    Ok(Kind::Checkpoint {
+        to,
+        target,
+        floor,
+        rows,
+    })
+}
+
 /// The checkpoint for a stream of these names at node `node`, which has these sets and this journal. It reads the list
 /// several times for each name that is known.
 pub fn snapshot(
@@ -160,10 +183,5 @@ pub fn snapshot(
 {
     let target = target(alloc, node, sets, entries, names)?;
     let rows = rows(alloc, entries, &target)?;
-    Ok(Kind::Checkpoint {
-        to: current_vector(entries),
-        target,
-        floor: floor_of(entries),
-        rows,
-    })
+    checkpoint(alloc, entries, target, rows)
 }

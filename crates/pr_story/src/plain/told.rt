@@ -14,10 +14,18 @@ use crate::{Entry, Event};
 use pr_inval::Kind;
 use pr_sets::NameSet;
 use pr_stamps::{NODES, Stamp};
-use pr_vectors::Vector;
+use pr_vectors::{PackedVector, Vector};
 
 // Whether the point lies between the vectors.
 pub fn is_between(from: &Vector, to: &Vector, point: &Stamp) -> bool
+    ensures { IsTrue result ↔ Between from.now to.now point.now }
+{
+    let clock = point.clock();
+    from.at(point.node()) < clock && clock <= to.at(point.node())
+}
+
+// Whether an invalidation between these vectors covers the point.
+pub fn is_covered(from: &PackedVector, to: &PackedVector, point: &Stamp) -> bool
     ensures { IsTrue result ↔ Between from.now to.now point.now }
 {
     let clock = point.clock();
@@ -29,10 +37,10 @@ fn tells(kind: &Kind, set: &NameSet, point: &Stamp) -> bool
     ensures { IsTrue result ↔ TellsPoint kind.now (has set.now) point.now }
 {
     match kind {
-        Kind::Precise { from, to, .. } => is_between(from, to, point),
-        Kind::Imprecise { from, to, target } => is_between(from, to, point) && !target.meets(set),
+        Kind::Precise { from, to, .. } => is_covered(from, to, point),
+        Kind::Imprecise { from, to, target } => is_covered(from, to, point) && !target.meets(set),
         Kind::Checkpoint { to, target, .. } => {
-            is_between(&Vector::zero(), to, point) && !target.meets(set)
+            is_between(&Vector::zero(), &to.get(), point) && !target.meets(set)
         }
         Kind::Body { .. } => false,
     }

@@ -19,7 +19,7 @@ use pr_inval::{Kind, Session, target_for};
 use pr_names::Name;
 use pr_sets::NameSet;
 use pr_stamps::NoMemory;
-use pr_vectors::Vector;
+use pr_vectors::{PackedVector, Vector};
 use std::alloc::Global;
 
 // The names of which something is withheld between two vectors.
@@ -100,8 +100,8 @@ fn ahead(
             let to = position.join(&vector);
             let target = target(alloc, node, entries, names, position, &to)?;
             Ok(Kind::Imprecise {
-                from: *position,
-                to,
+                from: PackedVector::of(alloc, position)?,
+                to: PackedVector::of(alloc, &to)?,
                 target,
             })
         }
@@ -111,15 +111,15 @@ fn ahead(
             if nothing {
                 let to = position.join(&vector.stamp_cut(&write.stamp));
                 return Ok(Kind::Precise {
-                    from: *position,
-                    to,
+                    from: PackedVector::of(alloc, position)?,
+                    to: PackedVector::of(alloc, &to)?,
                     write,
                 });
             }
             let target = target(alloc, node, entries, names, position, &before)?;
             Ok(Kind::Imprecise {
-                from: *position,
-                to: before,
+                from: PackedVector::of(alloc, position)?,
+                to: PackedVector::of(alloc, &before)?,
                 target,
             })
         }

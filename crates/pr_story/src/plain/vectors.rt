@@ -14,9 +14,9 @@ fn end_of(kind: &Kind) -> Vector
     ensures { result ≡ to_of kind.now }
 {
     match kind {
-        Kind::Precise { to, .. } => *to,
-        Kind::Imprecise { to, .. } => *to,
-        Kind::Checkpoint { to, .. } => *to,
+        Kind::Precise { to, .. } => to.get(),
+        Kind::Imprecise { to, .. } => to.get(),
+        Kind::Checkpoint { to, .. } => to.get(),
         Kind::Body { .. } => Vector::zero(),
     }
 }
@@ -51,7 +51,7 @@ fn cut_in(event: &Event) -> Vector
     ensures { result ≡ cut_in event.now }
 {
     match event {
-        Event::Cut { at } => *at,
+        Event::Cut { at } => at.get(),
         _ => Vector::zero(),
     }
 }
@@ -71,9 +71,9 @@ fn floor_after(event: &Event) -> Vector
     ensures { result ≡ floor_after event.now }
 {
     match event {
-        Event::Cut { at } => *at,
+        Event::Cut { at } => at.get(),
         Event::Accepted { msg, .. } => match &msg.kind {
-            Kind::Checkpoint { floor, .. } => *floor,
+            Kind::Checkpoint { floor, .. } => floor.get(),
             _ => Vector::zero(),
         },
         _ => Vector::zero(),

@@ -11,7 +11,7 @@ ghost use Rattle.pr_story.specs.declared.entry.Entry.{Entry};
 ghost use Rattle.pr_vectors.specs.Vector.{Between};
 ghost use Rattle.std.specs.Prelude.{◌↔◌, IsTrue, false, ◌≡◌, ◌≢◌, ◌∷◌, ◌<◌, ◌≤◌, ◌+◌, ℕ, List, IfOk, reverse};
 
-use crate::plain::told::is_between;
+use crate::plain::told::{is_between, is_covered};
 use crate::plain::writes::{known_write, write_in};
 use crate::{Entry, Event};
 use pr_inval::{Kind, WriteRec};
@@ -33,12 +33,12 @@ fn unlit_after(
     match &entry.event {
         Event::Accepted { msg, .. } => match &msg.kind {
             Kind::Precise { from, to, .. } => {
-                if is_between(from, to, point) {
+                if is_covered(from, to, point) {
                     return Ok(NameSet::empty(alloc));
                 }
             }
             Kind::Imprecise { from, to, target } => {
-                if is_between(from, to, point) {
+                if is_covered(from, to, point) {
                     return dark.intersect(alloc, target);
                 }
             }

@@ -6,7 +6,7 @@ use pr_inval::{Kind, Msg, Row, WriteRec};
 use pr_names::Name;
 use pr_sets::NameSet;
 use pr_stamps::{Seq, Stamp};
-use pr_vectors::Vector;
+use pr_vectors::{PackedVector, Vector};
 use std::alloc::Global;
 
 /// A stamp: its clock and its node.
@@ -63,6 +63,10 @@ pub fn vector(clocks: &Clocks) -> Vector {
     vector
 }
 
+fn packed(alloc: Global, clocks: &Clocks) -> Option<PackedVector> {
+    PackedVector::of(alloc, &vector(clocks)).ok()
+}
+
 fn rows(alloc: Global, table: &[(&[u8], At, bool)]) -> Option<Seq<Row>> {
     let mut rows = Seq::new(alloc);
     for (o, at, gone) in table {
@@ -77,12 +81,20 @@ fn rows(alloc: Global, table: &[(&[u8], At, bool)]) -> Option<Seq<Row>> {
     Some(rows)
 }
 
-fn precise(write: WriteRec, from: &Clocks, to: &Clocks) -> Kind {
-    Kind::Precise {
-        from: vector(from),
-        to: vector(to),
+fn precise(alloc: Global, write: WriteRec, from: &Clocks, to: &Clocks) -> Option<Kind> {
+    Some(Kind::Precise {
+        from: packed(alloc, from)?,
+        to: packed(alloc, to)?,
         write,
-    }
+    })
+}
+
+fn imprecise(alloc: Global, target: &[u8], from: &Clocks, to: &Clocks) -> Option<Kind> {
+    Some(Kind::Imprecise {
+        from: packed(alloc, from)?,
+        to: packed(alloc, to)?,
+        target: set(alloc, target)?,
+    })
 }
 
 fn checkpoint(
@@ -93,9 +105,9 @@ fn checkpoint(
     table: &[(&[u8], At, bool)],
 ) -> Option<Kind> {
     Some(Kind::Checkpoint {
-        to: vector(to),
+        to: packed(alloc, to)?,
         target: set(alloc, target)?,
-        floor: vector(floor),
+        floor: packed(alloc, floor)?,
         rows: rows(alloc, table)?,
     })
 }
@@ -111,14 +123,12 @@ fn body(alloc: Global, o: &[u8], at: At, text: &[u8]) -> Option<Kind> {
 pub fn kind(alloc: Global, shape: &Shape) -> Option<Kind> {
     match shape {
         Shape::Precise(o, at, prev, from, to) => {
-            Some(precise(write(o, *at, *prev, false)?, from, to))
+            precise(alloc, write(o, *at, *prev, false)?, from, to)
         }
-        Shape::Gone(o, at, prev, from, to) => Some(precise(write(o, *at, *prev, true)?, from, to)),
-        Shape::Imprecise(target, from, to) => Some(Kind::Imprecise {
-            from: vector(from),
-            to: vector(to),
-            target: set(alloc, target)?,
-        }),
+        Shape::Gone(o, at, prev, from, to) => {
+            precise(alloc, write(o, *at, *prev, true)?, from, to)
+        }
+        Shape::Imprecise(target, from, to) => imprecise(alloc, target, from, to),
         Shape::Checkpoint(target, to, floor, table) => checkpoint(alloc, target, to, floor, table),
         Shape::Body(o, at, text) => body(alloc, o, *at, text),
     }
@@ -167,7 +177,7 @@ fn wrote(
         client,
         write,
         body: bytes(alloc, text)?,
-        after: vector(after),
+        after: packed(alloc, after)?,
     })
 }
 
@@ -195,7 +205,7 @@ pub fn event(alloc: Global, line: &Line, time: u64) -> Option<Event> {
         }),
         Line::Accept(stream, number, shape, at) => Some(Event::Accepted {
             msg: msg(alloc, *stream, *number, time, shape)?,
-            at: vector(at),
+            at: packed(alloc, at)?,
         }),
         _ => other_event(alloc, line),
     }
@@ -205,20 +215,22 @@ fn other_event(alloc: Global, line: &Line) -> Option<Event> {
     match line {
         Line::Attach(stream, at) => Some(Event::Attached {
             stream: *stream,
-            at: vector(at),
+            at: packed(alloc, at)?,
         }),
         Line::Stale(stream, cut) => Some(Event::Stale {
             stream: *stream,
-            cut: vector(cut),
+            cut: packed(alloc, cut)?,
         }),
         Line::Idle(stream) => Some(Event::Idle { stream: *stream }),
         Line::Behind(client, _, needs, has) => Some(Event::Behind {
             client: *client,
-            needs: vector(needs),
-            has: vector(has),
+            needs: packed(alloc, needs)?,
+            has: packed(alloc, has)?,
         }),
         Line::Move(client, _) => Some(Event::Moved { client: *client }),
-        Line::Cut(_, at) => Some(Event::Cut { at: vector(at) }),
+        Line::Cut(_, at) => Some(Event::Cut {
+            at: packed(alloc, at)?,
+        }),
         Line::Drop(_, o) => Some(Event::Dropped { name: name(o)? }),
         _ => asked_event(alloc, line),
     }
@@ -229,7 +241,7 @@ fn answered(alloc: Global, client: u32, o: &[u8], what: &Says, at: &Clocks) -> O
         client,
         name: name(o)?,
         reply: reply(alloc, what)?,
-        at: vector(at),
+        at: packed(alloc, at)?,
     })
 }
 
@@ -245,9 +257,9 @@ fn asked_event(alloc: Global, line: &Line) -> Option<Event> {
         Line::Read(client, _, o, what, at) => answered(alloc, *client, o, what, at),
         Line::Conflicts(_, o, table) => conflicts(alloc, o, table),
         Line::State(_, at, cut, floor, precise) => Some(Event::State {
-            at: vector(at),
-            cut: vector(cut),
-            floor: vector(floor),
+            at: packed(alloc, at)?,
+            cut: packed(alloc, cut)?,
+            floor: packed(alloc, floor)?,
             precise: vectors(alloc, precise)?,
         }),
         _ => None,

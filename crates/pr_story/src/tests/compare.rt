@@ -8,6 +8,7 @@ use pr_inval::{Kind, Row, WriteRec};
 use pr_names::Name;
 use pr_sets::NameSet;
 use pr_stamps::Stamp;
+use pr_vectors::PackedVector;
 use std::alloc::Global;
 
 pub fn is_at(stamp: &Stamp, at: At) -> bool {
@@ -74,13 +75,17 @@ fn is_row(row: &Row, o: &[u8], at: At, gone: bool) -> bool {
     is_name(&row.name, o) && is_at(&row.newest, at) && row.gone == gone && row.marks.is_empty()
 }
 
+fn are_vectors(a: &PackedVector, b: &PackedVector, first: &Clocks, second: &Clocks) -> bool {
+    a.get() == vector(first) && b.get() == vector(second)
+}
+
 fn is_precise(kind: &Kind, from: &Clocks, to: &Clocks) -> bool {
     match kind {
         Kind::Precise {
             from: start,
             to: end,
             ..
-        } => *start == vector(from) && *end == vector(to),
+        } => are_vectors(start, end, from, to),
         _ => false,
     }
 }
@@ -101,7 +106,7 @@ fn is_imprecise(
 ) -> Option<bool> {
     match kind {
         Kind::Imprecise { from, to, target } => {
-            Some(*from == vector(start) && *to == vector(end) && is_set(alloc, target, text)?)
+            Some(are_vectors(from, to, start, end) && is_set(alloc, target, text)?)
         }
         _ => Some(false),
     }
@@ -120,7 +125,7 @@ fn is_checkpoint(
             target,
             floor,
             ..
-        } => Some(*to == vector(end) && *floor == vector(least) && is_set(alloc, target, text)?),
+        } => Some(are_vectors(to, floor, end, least) && is_set(alloc, target, text)?),
         _ => Some(false),
     }
 }

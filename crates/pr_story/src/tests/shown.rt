@@ -204,9 +204,9 @@ fn is_snapshot(alloc: Global, replay: &Replay, stream: u32, shape: &Shape) -> Op
 // Whether the message may be taken at this vector, and gives that one.
 fn is_taken(kind: &Kind, now: &Vector, at: &Vector) -> bool {
     match kind {
-        Kind::Precise { from, to, .. } => from.le(now) && now.join(to) == *at,
-        Kind::Imprecise { from, to, .. } => from.le(now) && now.join(to) == *at,
-        Kind::Checkpoint { to, .. } => now.join(to) == *at,
+        Kind::Precise { from, to, .. } => from.le(now) && now.join(&to.get()) == *at,
+        Kind::Imprecise { from, to, .. } => from.le(now) && now.join(&to.get()) == *at,
+        Kind::Checkpoint { to, .. } => now.join(&to.get()) == *at,
         Kind::Body { .. } => *now == *at,
     }
 }

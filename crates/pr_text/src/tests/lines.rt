@@ -4,7 +4,7 @@ use pr_names::Name;
 use pr_script::{Want, read};
 use pr_stamps::{NoMemory, Seq, Stamp};
 use pr_story::{Event, Reply};
-use pr_vectors::Vector;
+use pr_vectors::{PackedVector, Vector};
 use std::alloc::Global;
 
 // A line, a job or what is asked for: which it is, and two of its numbers.
@@ -201,27 +201,37 @@ fn reply(alloc: Global, kind: u8) -> Option<Reply> {
     }
 }
 
+fn zero(alloc: Global) -> Option<PackedVector> {
+    PackedVector::of(alloc, &Vector::zero()).ok()
+}
+
 fn event(alloc: Global, kind: u8) -> Option<Event> {
-    let at = Vector::zero();
     if kind == 5 {
         return Some(Event::Behind {
             client: 0,
-            needs: at,
-            has: at,
+            needs: zero(alloc)?,
+            has: zero(alloc)?,
         });
     }
     Some(Event::Answered {
         client: 0,
         name: Name::read(b"a").ok()?,
         reply: reply(alloc, kind)?,
-        at,
+        at: zero(alloc)?,
     })
 }
 
 fn is_met(alloc: Global, wanted: u8, given: u8) -> bool {
-    match (want(alloc, wanted), event(alloc, given)) {
-        (Some(want), Some(event)) => met(&want, &event),
-        _ => false,
+    match want(alloc, wanted) {
+        Some(want) => is_met_by(alloc, &want, given),
+        None => false,
+    }
+}
+
+fn is_met_by(alloc: Global, want: &Want, given: u8) -> bool {
+    match event(alloc, given) {
+        Some(event) => met(want, &event),
+        None => false,
     }
 }
 
@@ -236,9 +246,8 @@ fn each_kind_meets_its_own_expectation(rt: HostRuntime) {
 
 // Whether the value that is read is the one that is wanted.
 fn has_value(alloc: Global, text: &[u8]) -> Option<bool> {
-    let event = event(alloc, 0)?;
     let want = Want::Value(Seq::copied(alloc, text).ok()?);
-    Some(met(&want, &event))
+    Some(is_met_by(alloc, &want, 0))
 }
 
 fn are_met_by_bytes(alloc: Global) -> Option<bool> {

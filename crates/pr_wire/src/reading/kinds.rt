@@ -10,7 +10,7 @@ use crate::reading::stamps::is_between;
 use crate::reading::vectors::is_le;
 use pr_inval::{Kind, Msg, WriteRec};
 use pr_stamps::{MAX, Seq};
-use pr_vectors::Vector;
+use pr_vectors::{PackedVector, Vector};
 use std::alloc::Global;
 
 // Whether it can be a time or a message number.
@@ -53,7 +53,7 @@ pub fn message(alloc: Global, format: Format, bytes: &[u8]) -> Result<Msg, Fault
     let kind = cursor.byte()?;
     let header = cursor.header()?;
     match kind {
-        1 => cursor.precise(format, &header),
+        1 => cursor.precise(alloc, format, &header),
         2 => cursor.imprecise(alloc, format, &header),
         3 => cursor.checkpoint(alloc, format, &header),
         4 => cursor.body(alloc, &header),
@@ -108,7 +108,7 @@ impl<'a> Cursor<'a> {
 
     #[tactic(auto, unfolding(crate::specs::Reading::precise_at, crate::specs::Reading::vector_at, crate::specs::Reading::whole))]
     #[inline(never)]
-    fn precise(&mut self, format: Format, header: &Header) -> Result<Msg, Fault>
+    fn precise(&mut self, alloc: Global, format: Format, header: &Header) -> Result<Msg, Fault>
         ensures { Gives (λ x. x) result (whole header.now (precise_at format self.old.rest.now)) }
     {
         let mut from = Vector::zero();
@@ -120,6 +120,8 @@ impl<'a> Cursor<'a> {
             return Err(Fault::Bad);
         }
         self.expect_end()?;
+        let from = PackedVector::of(alloc, &from)?;
+        let to = PackedVector::of(alloc, &to)?;
         Ok(header.with(Kind::Precise { from, to, write }))
     }
 
@@ -134,6 +136,8 @@ impl<'a> Cursor<'a> {
         self.end(format, &mut to)?;
         let target = self.target(alloc)?;
         self.expect_end()?;
+        let from = PackedVector::of(alloc, &from)?;
+        let to = PackedVector::of(alloc, &to)?;
         Ok(header.with(Kind::Imprecise { from, to, target }))
     }
 
@@ -156,6 +160,8 @@ impl<'a> Cursor<'a> {
         };
         let rows = self.rows(alloc, &bounds)?;
         self.expect_end()?;
+        let to = PackedVector::of(alloc, &to)?;
+        let floor = PackedVector::of(alloc, &floor)?;
         Ok(header.with(Kind::Checkpoint {
             to,
             target,

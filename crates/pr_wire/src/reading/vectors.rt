@@ -8,7 +8,8 @@ use crate::format::Format;
 use crate::reading::Cursor;
 use crate::reading::stamps::stamp_of;
 use pr_stamps::Stamp;
-use pr_vectors::Vector;
+use pr_vectors::{PackedVector, Vector};
+use std::alloc::Global;
 
 // Whether no clock of the first vector is above the other's.
 pub fn is_le(vector: &Vector, other: &Vector) -> bool
@@ -68,6 +69,16 @@ impl<'a> Cursor<'a> {
         let mut vector = Vector::zero();
         self.rise(&mut vector)?;
         Ok(vector)
+    }
+
+    /// A vector, packed. It takes memory for its clocks.
+    #[tactic(auto, unfolding(crate::specs::Reading::vector_at))]
+    pub fn packed_vector(&mut self, alloc: Global) -> Result<PackedVector, Fault>
+        ensures { Gives (λ x. (x, self.new.rest.now)) result (vector_at self.old.rest.now) }
+    {
+        let mut vector = Vector::zero();
+        self.rise(&mut vector)?;
+        Ok(PackedVector::of(alloc, &vector)?)
     }
 
     /// Raises the vector at which points start to the one at which they end.

@@ -90,6 +90,18 @@ fn fields_are_appended_and_read(rt: HostRuntime) -> Result<(), Fail> {
     Ok(())
 }
 
+// Whether the bytes are the vector of the stamp 3@1, read as a packed one.
+fn is_packed(alloc: Global, bytes: &[u8]) -> Result<bool, Fault> {
+    let mut cursor = Cursor { rest: bytes };
+    let vector = cursor.packed_vector(alloc)?;
+    Ok(vector.at(1) == 3 && vector.at(31) == 0 && cursor.rest.is_empty())
+}
+
+#[test]
+fn vectors_are_read_packed(rt: HostRuntime) {
+    assert!(rt; is_packed(rt.alloc(), &FIELDS[13..23]).unwrap_or(false));
+}
+
 // A set that says that it has the most intervals, and has one.
 const FALSE_COUNT: [u8; 14] = [255, 255, 255, 255, 255, 255, 255, 255, 2, 98, 47, 2, 98, 48];
 

@@ -6,11 +6,11 @@ ghost use Rattle.std.specs.Prelude.{◌≡◌, ◌≤◌, ◌+◌, [], ◌++◌,
 
 use crate::writing::chunk::{Chunk, put, put_eight};
 use crate::writing::fields::{put_gone, put_mark, put_name, put_span, put_stamp};
-use crate::writing::vectors::put_vector;
+use crate::writing::vectors::put_packed;
 use pr_inval::Row;
 use pr_names::Interval;
 use pr_stamps::Mark;
-use pr_vectors::Vector;
+use pr_vectors::PackedVector;
 
 /// What is left of a message: items of a list with what follows them, or bytes of a body.
 #[derive(Clone, Copy)]
@@ -19,7 +19,7 @@ pub enum Left<'a> {
     Target(&'a [Interval]),
     Checkpoint {
         target: &'a [Interval],
-        floor: &'a Vector,
+        floor: &'a PackedVector,
         rows: &'a [Row],
     },
     Rows(&'a [Row]),
@@ -64,7 +64,7 @@ fn next_span<'a>(parts: &'a [Interval], chunk: &mut Chunk) -> Left<'a>
 
 fn next_target<'a>(
     target: &'a [Interval],
-    floor: &'a Vector,
+    floor: &'a PackedVector,
     rows: &'a [Row],
     chunk: &mut Chunk,
 ) -> Left<'a>
@@ -86,12 +86,12 @@ fn next_target<'a>(
 }
 
 #[tactic(auto, unfolding(crate::specs::Spelling::list_text))]
-fn floor_of<'a>(floor: &'a Vector, rows: &'a [Row], chunk: &mut Chunk) -> Left<'a>
+fn floor_of<'a>(floor: &PackedVector, rows: &'a [Row], chunk: &mut Chunk) -> Left<'a>
     requires { chunk.old.items ≡ [] }
     ensures text { vector_text floor.now ++ list_text (row_text Format.Two) rows.now ≡ chunk.new.items ++ left_text result }
     ensures some { 1 ≤ length chunk.new.items }
 {
-    put_vector(chunk, floor);
+    put_packed(chunk, floor);
     put_eight(chunk, rows.len() as u64);
     Left::Rows(rows)
 }

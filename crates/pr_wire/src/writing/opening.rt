@@ -7,7 +7,7 @@ ghost use Rattle.std.specs.Prelude.{◌≡◌, ◌≤◌, ◌+◌, [], ◌++◌,
 use crate::writing::chunk::{Chunk, put_byte, put_eight, put_four};
 use crate::writing::fields::{put_name, put_stamp, put_write};
 use crate::writing::left::Left;
-use crate::writing::vectors::{put_rise, put_vector};
+use crate::writing::vectors::{put_packed, put_points};
 use pr_inval::{Kind, Msg};
 
 fn kind_byte(kind: &Kind) -> u8
@@ -45,14 +45,12 @@ fn open_kind<'a>(kind: &'a Kind, chunk: &mut Chunk) -> Left<'a>
 {
     match kind {
         Kind::Precise { from, to, write } => {
-            put_vector(chunk, from);
-            put_rise(chunk, from, to);
+            put_points(chunk, from, to);
             put_write(chunk, write);
             Left::Nothing
         }
         Kind::Imprecise { from, to, target } => {
-            put_vector(chunk, from);
-            put_rise(chunk, from, to);
+            put_points(chunk, from, to);
             put_eight(chunk, target.count() as u64);
             Left::Target(target.parts())
         }
@@ -62,7 +60,7 @@ fn open_kind<'a>(kind: &'a Kind, chunk: &mut Chunk) -> Left<'a>
             floor,
             rows,
         } => {
-            put_vector(chunk, to);
+            put_packed(chunk, to);
             put_eight(chunk, target.count() as u64);
             Left::Checkpoint {
                 target: target.parts(),

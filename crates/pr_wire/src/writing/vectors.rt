@@ -4,7 +4,7 @@ ghost use Rattle.std.specs.Prelude.{◌≡◌, ◌≤◌, ◌+◌, ◌++◌, len
 
 use crate::writing::chunk::{Chunk, put_byte, put_eight};
 use pr_stamps::NODES;
-use pr_vectors::Vector;
+use pr_vectors::{PackedVector, Vector};
 
 // At how many nodes the second vector is above the first.
 fn count_above(from: &Vector, to: &Vector) -> u8
@@ -41,9 +41,9 @@ fn put_entries(chunk: &mut Chunk, from: &Vector, to: &Vector, count: u8)
     }
 }
 
-/// What the second vector has above the first.
+// What the second vector has above the first.
 #[tactic(auto, unfolding(crate::specs::Spelling::rise_text))]
-pub fn put_rise(chunk: &mut Chunk, from: &Vector, to: &Vector)
+fn put_rise(chunk: &mut Chunk, from: &Vector, to: &Vector)
     requires { length chunk.old.items + 289 ≤ 704 }
     ensures text { chunk.new.items ≡ chunk.old.items ++ rise_text from.now to.now }
     ensures size { length chunk.new.items ≤ length chunk.old.items + 289 }
@@ -62,4 +62,25 @@ pub fn put_vector(chunk: &mut Chunk, vector: &Vector)
     ensures grows { length chunk.old.items ≤ length chunk.new.items }
 {
     put_rise(chunk, &Vector::zero(), vector);
+}
+
+pub fn put_packed(chunk: &mut Chunk, vector: &PackedVector)
+    requires { length chunk.old.items + 289 ≤ 704 }
+    ensures text { chunk.new.items ≡ chunk.old.items ++ vector_text vector.now }
+    ensures size { length chunk.new.items ≤ length chunk.old.items + 289 }
+    ensures grows { length chunk.old.items ≤ length chunk.new.items }
+{
+    put_vector(chunk, &vector.get());
+}
+
+/// Where the points of a message start, and what their end has above that.
+pub fn put_points(chunk: &mut Chunk, from: &PackedVector, to: &PackedVector)
+    requires { length chunk.old.items + 578 ≤ 704 }
+    ensures text { chunk.new.items ≡ chunk.old.items ++ (vector_text from.now ++ rise_text from.now to.now) }
+    ensures size { length chunk.new.items ≤ length chunk.old.items + 578 }
+    ensures grows { length chunk.old.items ≤ length chunk.new.items }
+{
+    let from = from.get();
+    put_vector(chunk, &from);
+    put_rise(chunk, &from, &to.get());
 }

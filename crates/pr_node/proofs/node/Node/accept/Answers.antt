@@ -10,13 +10,13 @@ invariant_of-self c = still_stands _ _ _ _ _ _ c.self.invariant c.begin.ensures.
 
 pub invariant_of-self-in-Some : goal.invariant_of-self-in-Some
 invariant_of-self-in-Some c =
-    stands c.self.inside.id _ _ _ _ _ _ c.self.invariant.0 c.in_ok-time.ensures.items c.gapped.ensures.items
+    stands c.self.inside.id _ _ _ _ _ _ c.self.invariant.0 c.in_ok-time.ensures.items c.in_ok-gapped.ensures.items
     (quiet_tied c.self.inside.id _ _ _ tt (c.self.invariant.1 c.in_ok-time.ensures.worked))
 
 pub returns-in-Some-clause-ok : goal.returns-in-Some-clause-ok
 returns-in-Some-clause-ok c sessions needs =
     let tied = c.self.invariant.1 c.in_ok-time.ensures.worked in
-    rw (← c.self.view_is) (adds _ _ _ _ _ _ _ _ _ sessions needs _ _ _ c.in_ok-time.ensures.items c.gapped.ensures.items refl c.gapped.ensures.spent
+    rw (← c.self.view_is) (adds _ _ _ _ _ _ _ _ _ sessions needs _ _ _ c.in_ok-time.ensures.items c.in_ok-gapped.ensures.items refl c.in_ok-gapped.ensures.spent
     (gapped_ready sessions needs _ _ _ _ _ _ _ c.in-Some.needs c.msg_in_range.ensures c.vector-has.ensures.range (c.vector-has.ensures.value ∙ tied.log.vector) c.in-Some.ensures)
     c.ranges.caller.fits refl refl c.in_ok-time.ensures.time (refl, c.in-Some.ensures.0, refl))
 
@@ -24,7 +24,7 @@ pub invariant_of-self-2 : goal.invariant_of-self-2
 invariant_of-self-2 c =
     let j : List Entry = reverse c.self.inside.diary.entries.items in
     let tied = c.self.invariant.1 c.in_ok-time.ensures.worked in
-    stands c.self.inside.id _ _ _ _ _ _ c.self.invariant.0 c.in_ok-time.ensures.items c.accepted.ensures.items
+    stands c.self.inside.id _ _ _ _ _ _ c.self.invariant.0 c.in_ok-time.ensures.items c.in_ok-accepted.ensures.items
     (c.in_ok-take.ensures.taken c.self.inside.id j c.in_ok-time.time c.args.caller c.args.msg c.vector-at.result refl tied)
 
 pub returns-clause-ok : goal.returns-clause-ok
@@ -32,6 +32,6 @@ returns-clause-ok c sessions needs =
     let j : List Entry = reverse c.self.inside.diary.entries.items in
     let tied = c.self.invariant.1 c.in_ok-time.ensures.worked in
     let now = c.in_ok-take.ensures.taken c.self.inside.id j c.in_ok-time.time c.args.caller c.args.msg [] refl tied in
-    rw (← c.self.view_is) (adds _ _ _ _ _ _ _ _ _ sessions needs _ _ _ c.in_ok-time.ensures.items c.accepted.ensures.items c.in_ok-take.ensures.sets c.accepted.ensures.spent
+    rw (← c.self.view_is) (adds _ _ _ _ _ _ _ _ _ sessions needs _ _ _ c.in_ok-time.ensures.items c.in_ok-accepted.ensures.items c.in_ok-take.ensures.sets c.in_ok-accepted.ensures.spent
     (accepted_ready sessions needs _ _ _ _ _ _ c.vector-has.result _ c.msg_in_range.ensures c.vector-at.ensures.range (c.vector-has.ensures.value ∙ tied.log.vector) (search rules) (c.vector-at.ensures.value ∙ now.log.vector))
     c.ranges.caller.fits refl refl c.in_ok-time.ensures.time ((c.vector-at.result, refl), refl))

@@ -1,4 +1,4 @@
-use Rattle.std.proofs.Common.{◌≡◌, ◌<◌, ◌+◌, max, ◌∙◌, ℕ, sym, refl, ap, subst, rules, arith, List, reverse}
+use Rattle.std.proofs.Common.{◌≡◌, ◌<◌, ◌+◌, max, ℕ, sym, refl, ap, subst, rules, arith, List, reverse}
 use Rattle.pr_inval.specs.Standing.{means, SessionMeaning}
 use Rattle.pr_story.specs.declared.entry.Entry.{Entry}
 use Rattle.pr_story.specs.declared.event.Event.TheVariants.{Attached}
@@ -12,7 +12,7 @@ use Rattle.pr_story.specs.Sessions.{HasGoneOn}
 
 pub invariant_of-self-2 : goal.invariant_of-self-2
 invariant_of-self-2 c =
-    stands c.self.inside.id _ _ _ _ _ _ c.self.invariant.0 c.in_ok-time.ensures.items c.finish.ensures.items
+    stands c.self.inside.id _ _ _ _ _ _ c.self.invariant.0 c.in_ok-time.ensures.items c.in_ok-attached.ensures.items
     (quiet_tied c.self.inside.id _ _ _ tt (c.self.invariant.1 c.in_ok-time.ensures.worked))
 
 pub returns-clause-ok : goal.returns-clause-ok
@@ -21,11 +21,11 @@ returns-clause-ok c needs =
     let j : List Entry = reverse c.self.inside.diary.entries.items in
     let a : SessionMeaning = means c.args.session.now in
     let tied = c.self.invariant.1 c.in_ok-time.ensures.worked in
-    let is : c.stream.result ≡ a.stream = c.stream.ensures ∙ c.heard.ensures.stream ∙ c.begin-2.ensures.stream in
+    let is : c.stream.result ≡ a.stream = c.stream.ensures in
     let now : c.in_ok-time.time ≡ max (last_time (reverse c.self.inside.diary.entries.items)) c.time.result + 1 = c.in_ok-time.ensures.time.0 in
     let was : c.time.result ≡ a.standing.time = c.time.ensures.value in
     let later : a.standing.time < c.in_ok-time.time = omega (arith, now, was) in
-    rw (← c.self.view_is) (adds n _ _ _ _ _ _ _ _ (λ x. a.standing) needs _ c.time.result _ c.in_ok-time.ensures.items c.finish.ensures.items refl c.finish.ensures.spent
+    rw (← c.self.view_is) (adds n _ _ _ _ _ _ _ _ (λ x. a.standing) needs _ c.time.result _ c.in_ok-time.ensures.items c.in_ok-attached.ensures.items refl c.in_ok-attached.ensures.spent
     (attach_ready needs n j c.self.inside.stores.gaps.sets a.standing c.sub.result.now c.in_ok-time.time c.args.caller c.stream.result c.start-at.result (search rules) c.start-at.ensures.range c.sub.ensures.value (c.start-at.ensures.start n j tied.gaps))
     c.ranges.caller.fits refl was c.in_ok-time.ensures.time (
       ap (λ (k : ℕ). Attached k c.start-at.result) is,

@@ -9,18 +9,18 @@ use Rattle.pr_node.proofs.node.Node.read.Goals as goal
 
 pub invariant_of-self-then-not-le : goal.invariant_of-self-then-not-le
 invariant_of-self-then-not-le c =
-    stands c.self.inside.id _ _ _ _ _ _ c.self.invariant.0 c.in_ok-time.ensures.items c.behind.ensures.items
+    stands c.self.inside.id _ _ _ _ _ _ c.self.invariant.0 c.in_ok-time.ensures.items c.in_ok-behind.ensures.items
     (quiet_tied c.self.inside.id _ _ _ tt (c.self.invariant.1 c.in_ok-time.ensures.worked))
 
 pub invariant_of-self-2 : goal.invariant_of-self-2
 invariant_of-self-2 c =
-    stands c.self.inside.id _ _ _ _ _ _ c.self.invariant.0 c.in_ok-time.ensures.items c.finish.ensures.items
+    stands c.self.inside.id _ _ _ _ _ _ c.self.invariant.0 c.in_ok-time.ensures.items c.in_ok-answered-2.ensures.items
     (quiet_tied c.self.inside.id _ _ _ tt (c.self.invariant.1 c.in_ok-time.ensures.worked))
 
 pub returns-clause-ok : goal.returns-clause-ok
 returns-clause-ok c sessions =
     let j : List Entry = reverse c.self.inside.diary.entries.items in
     let tied = c.self.invariant.1 c.in_ok-time.ensures.worked in
-    rw (← c.self.view_is) (adds _ _ _ _ _ _ _ _ _ sessions (λ x. c.args.needs.now) _ _ _ c.in_ok-time.ensures.items c.finish.ensures.items refl c.finish.ensures.spent
+    rw (← c.self.view_is) (adds _ _ _ _ _ _ _ _ _ sessions (λ x. c.args.needs.now) _ _ _ c.in_ok-time.ensures.items c.in_ok-answered-2.ensures.items refl c.in_ok-answered-2.ensures.spent
     (answered_ready sessions _ _ _ _ _ _ _ _ _ _ _ c.ranges.client.fits c.bytes.ensures.name c.in_ok-answered.ensures.1 c.answer.ensures.range c.vector-at.ensures.range (c.vector-at.ensures.value ∙ tied.log.vector) (search rules) (c.answer.ensures.value c.self.inside.id j tied))
     c.ranges.caller.fits refl refl c.in_ok-time.ensures.time (c.vector-at.result, ap (λ (r : Reply). Answered c.args.client c.args.name.now r c.vector-at.result) (c.in_ok-answered.ensures.1 ∙ sym c.in_ok-answered.ensures.0)))

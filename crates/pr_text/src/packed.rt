@@ -1,0 +1,41 @@
+// Vectors at rest.
+ghost use Rattle.pr_vectors.specs.Vector.{clock_of};
+ghost use Rattle.pr_text.specs.Texts.{clocks, listed, vector_text};
+ghost use Rattle.std.specs.Prelude.{◌≡◌, ◌++◌, OnOk};
+
+use crate::vector::{push_clock, push_hyphen};
+use pr_script::{Bytes, Decls, Kind};
+use pr_stamps::NoMemory;
+use pr_vectors::PackedVector;
+
+/// Adds what `push_vector` adds for the same vector, without unpacking it.
+pub fn push_packed(decls: &Decls, vector: &PackedVector, text: &mut Bytes) -> Result<(), NoMemory>
+    ensures { OnOk result (text.new ≡ text.old ++ vector_text decls.now.list vector.now) }
+{
+    push_clocks(decls.labels(Kind::Node), vector, text)
+}
+
+// Adds the vector over these nodes' labels.
+fn push_clocks(labels: &[Bytes], vector: &PackedVector, text: &mut Bytes) -> Result<(), NoMemory>
+    ensures { OnOk result (text.new ≡ text.old ++ listed (clocks labels.now 0 vector.now)) }
+{
+    let mut node = 0usize;
+    let mut some = false;
+    for label in labels {
+        let clock = clock_at(vector, node);
+        if clock > 0 {
+            push_clock(some, label.as_slice(), clock, text)?;
+            some = true;
+        }
+        node += 1;
+    }
+    push_hyphen(some, text)
+}
+
+// The clock of a node; past the last node it is 0.
+fn clock_at(vector: &PackedVector, node: usize) -> u64
+    ensures { result ≡ clock_of vector.now node }
+{
+    let _in_range = vector.at(0);
+    if node < 32 { vector.at(node as u32) } else { 0 }
+}
