@@ -2,43 +2,50 @@
 ghost use Rattle.std.specs.Prelude.{◌≡◌, ◌<◌, ◌↔◌, IfOk, IsTrue};
 
 use crate::Vector;
-use pr_stamps::{NoMemory, Seq};
+use crate::clocks::Clocks;
+use pr_stamps::{NODES, NoMemory};
 use std::alloc::Global;
 use std::marker::Model;
 
-/// A version vector as messages and entries of a journal keep it: its clocks up to the last that is not 0, on the heap.
-/// So it takes 24 bytes, and besides 8 for each of these clocks, where a `Vector` takes 256. Contracts see it as they
-/// see a `Vector`, and each call takes time linear in the nodes.
+/// A version vector as messages and entries of a journal keep it, in 40 bytes where a `Vector` takes 256: where only the
+/// first eight nodes count, and each clock is below 2^32, it lies in place. Else its 32 clocks are on the heap, in 128
+/// bytes, or in 256 where one of them is 2^32 or more. Contracts see it as they see a `Vector`, and each call takes time
+/// linear in the nodes.
 #[derive(Drop)]
 pub struct PackedVector {
-    clocks: Seq<u64>,
+    clocks: Clocks,
 }
 
 impl Model for PackedVector {
     ghost use Rattle.std.specs.Prelude.{List, ℕ};
-    ghost use Rattle.pr_vectors.specs.Vector.{IsVector, unpacked};
+    ghost use Rattle.pr_vectors.specs.Packed.{vector_in};
+    ghost use Rattle.pr_vectors.specs.Vector.{IsVector};
 
     ghost Value = { List ℕ };
 
-    ghost view = { λ v. unpacked v.clocks };
+    ghost view = { λ v. vector_in v.clocks };
 
-    ghost invariant = { λ v. IsVector (unpacked v.clocks) };
+    ghost invariant = { λ v. IsVector (vector_in v.clocks) };
 }
+
+const _: () = prove!(size_of::<PackedVector>() == 40);
 
 impl PackedVector {
     ghost use Rattle.pr_vectors.specs.Vector.{IsVector, Le, clock_of};
 
+    /// It takes memory only where the vector does not lie in place.
     pub fn of(alloc: Global, vector: &Vector) -> Result<PackedVector, NoMemory>
         ensures { IfOk result (λ packed. packed ≡ vector.now) }
     {
-        let clocks = Seq::copied(alloc, vector.counted())?;
+        let clocks = Clocks::of(alloc, vector)?;
         Ok(PackedVector { clocks })
     }
 
+    /// It takes memory as `of` does.
     pub fn copy(&self, alloc: Global) -> Result<PackedVector, NoMemory>
         ensures { IfOk result (λ packed. packed ≡ self.now) }
     {
-        let clocks = Seq::copied(alloc, self.clocks.as_slice())?;
+        let clocks = self.clocks.copy(alloc)?;
         Ok(PackedVector { clocks })
     }
 
@@ -47,7 +54,7 @@ impl PackedVector {
         ensures value { result ≡ self.now }
         ensures range { IsVector self.now }
     {
-        Vector::unpacked(self.clocks.as_slice())
+        self.clocks.vector()
     }
 
     /// The clock of the node, in constant time.
@@ -56,18 +63,13 @@ impl PackedVector {
         ensures value { result ≡ clock_of self.now node }
         ensures range { IsVector self.now }
     {
-        let clocks = self.clocks.as_slice();
-        if (node as usize) < clocks.len() {
-            clocks[node as usize]
-        } else {
-            0
-        }
+        self.clocks.at(node)
     }
 
     /// Whether each clock is at most the other's.
     pub fn le(&self, other: &Vector) -> bool
         ensures { IsTrue result ↔ Le self.now other.now }
     {
-        self.get().le(other)
+        (0..NODES).all(|n| self.at(n) <= other.at(n))
     }
 }

@@ -54,8 +54,9 @@ fn is_same(packed: &PackedVector, vector: &Vector) -> bool {
 #[test]
 fn what_is_packed_is_the_vector(rt: HostRuntime) -> Result<(), Fail> {
     let middle = vector(&[(3, 0), (2, 5)]).ok_or("stamps")?;
-    let last = vector(&[(MAX, 31)]).ok_or("a stamp")?;
-    for vector in [Vector::zero(), middle, last] {
+    let large = vector(&[(MAX, 7)]).ok_or("a stamp")?;
+    let last = vector(&[(1, 31)]).ok_or("a stamp")?;
+    for vector in [Vector::zero(), middle, large, last] {
         assert!(rt; is_packed(rt.alloc(), &vector).unwrap_or(false));
     }
     Ok(())

@@ -1,7 +1,7 @@
 use Rattle.std.proofs.Common.{refl, arith}
 use Rattle.pr_vectors.specs.Vector.{vector_of}
 use Rattle.pr_vectors.proofs.Vectors.{clock_of-vector_of, is_unpacked}
-use Rattle.pr_vectors.proofs.vector.Vector.unpacked.Goals as goal
+use Rattle.pr_vectors.proofs.vector.Vector.of_few.Goals as goal
 
 pub loop-n-init : goal.loop-n-init
 unfolding vector_of
@@ -12,7 +12,7 @@ loop-n-init c = record {
 }
 
 pub returns : goal.returns
-returns c = is_unpacked _ _ c.loop-n.n c.loop-n.invariant.len c.loop-n.invariant.front c.loop-n.invariant.behind (λ k above lt. omega (arith, above, lt, c.loop-n-test.false, c.min-count.ensures))
+returns c = is_unpacked _ _ c.loop-n.n c.loop-n.invariant.len c.loop-n.invariant.front c.loop-n.invariant.behind (λ k above lt. omega (arith, above, lt, c.loop-n-test.false, c.fits-few))
 
 pub invariant_of-result : goal.invariant_of-result
 invariant_of-result c = rw (returns c) c.requires

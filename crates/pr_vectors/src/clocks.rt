@@ -1,0 +1,77 @@
+// The clocks of a packed vector.
+ghost use Rattle.pr_vectors.specs.Packed.{vector_in};
+ghost use Rattle.pr_vectors.specs.Vector.{IsVector, clock_of, unpacked};
+ghost use Rattle.std.specs.Prelude.{◌≡◌, ◌<◌, IfOk};
+
+use crate::Vector;
+use pr_stamps::NoMemory;
+use std::alloc::Global;
+
+// In place those of the first eight nodes, where no other node counts and each is below 2^32, as mostly. On the heap
+// those of all nodes: as far as each is below 2^32, and else whole.
+#[derive(Drop)]
+pub(crate) enum Clocks {
+    Few([u32; 8]),
+    Near(Box<[u32; 32]>),
+    Far(Box<Vector>),
+}
+
+impl Clocks {
+    pub(crate) fn of(alloc: Global, vector: &Vector) -> Result<Clocks, NoMemory>
+        ensures value { IfOk result (λ clocks. vector_in clocks ≡ vector.now) }
+        ensures range { IsVector vector.now }
+    {
+        let _ = vector.at(0);
+        if let Some(few) = vector.few() {
+            return Ok(Clocks::Few(few));
+        }
+        match vector.near() {
+            Some(near) => Ok(Clocks::Near(Box::new(alloc, near)?)),
+            None => Ok(Clocks::Far(Box::new(alloc, *vector)?)),
+        }
+    }
+
+    pub(crate) fn copy(&self, alloc: Global) -> Result<Clocks, NoMemory>
+        ensures { IfOk result (λ clocks. vector_in clocks ≡ vector_in self.now) }
+    {
+        match self {
+            Clocks::Few(few) => Ok(Clocks::Few(*few)),
+            Clocks::Near(near) => Ok(Clocks::Near(Box::new(alloc, **near)?)),
+            Clocks::Far(far) => Ok(Clocks::Far(Box::new(alloc, **far)?)),
+        }
+    }
+
+    pub(crate) fn vector(&self) -> Vector
+        requires { IsVector (vector_in self.now) }
+        ensures { result ≡ vector_in self.now }
+    {
+        match self {
+            Clocks::Few(few) => Vector::of_few(few),
+            Clocks::Near(near) => Vector::of_near(near),
+            Clocks::Far(far) => **far,
+        }
+    }
+
+    // The clock of the node.
+    pub(crate) fn at(&self, node: u32) -> u64
+        requires { node < 32 }
+        ensures { result ≡ clock_of (vector_in self.now) node }
+    {
+        match self {
+            Clocks::Few(few) => at_few(few, node),
+            Clocks::Near(near) => u64::from(near[node as usize]),
+            Clocks::Far(far) => far.at(node),
+        }
+    }
+}
+
+fn at_few(few: &[u32; 8], node: u32) -> u64
+    requires { node < 32 }
+    ensures { result ≡ clock_of (unpacked few.now) node }
+{
+    if (node as usize) < few.len() {
+        u64::from(few[node as usize])
+    } else {
+        0
+    }
+}
