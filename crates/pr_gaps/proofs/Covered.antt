@@ -18,3 +18,7 @@ node_covered from to n now was lo hi lo_is hi_is same c = (
 -- the node has no point between the vectors
 pub node_same : (from to : List ℕ) (n : ℕ) → clock_of to n ≤ clock_of from n → (was : List (ℕ × ℕ)) → IsNodeCovered from to n was was
 node_same from to n le was c = ((λ has. inl has), (λ either. elim either [ inl old ↦ old | inr new ↦ absurd (omega (arith, new.0, new.1, le)) ]))
+
+-- the node has no point at all, and stays as it was
+pub rest_same : (from to : List ℕ) (n : ℕ) (now was : List (ℕ × ℕ)) → clock_of to n ≡ 0 → now ≡ was → IsNodeCovered from to n now was
+rest_same from to n now was none e = rw e (node_same from to n (omega (arith, none)) was)

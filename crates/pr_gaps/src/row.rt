@@ -42,7 +42,7 @@ impl Row {
     pub fn cover(&mut self, from: &Vector, to: &Vector) -> Result<(), NoMemory>
         ensures { OnOk result (IsRowCovered self.old self.new from.now to.now) }
     {
-        for n in 0..NODES {
+        for n in 0..to.nodes() {
             let (from, to) = (from.at(n), to.at(n));
             if from < to {
                 let clocks = &mut self.clocks[n as usize];

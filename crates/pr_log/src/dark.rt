@@ -97,7 +97,7 @@ fn refine_rows(
     ensures len { length rows.new.items ≡ 32 }
     ensures each { OnOk result ((n : ℕ) → n < 32 → ¬ (n ≡ own) → IsRowRefined (clock_of from.now n) (clock_of to.now n) target.now (sets_of rows.old.items n) (sets_of rows.new.items n)) }
 {
-    for n in 0..NODES {
+    for n in 0..to.nodes() {
         let (from, to) = (from.at(n), to.at(n));
         if from < to && n != own {
             let row = &mut rows[n as usize];

@@ -1,4 +1,5 @@
-use Rattle.std.proofs.Common.{◌≡◌, [], ℕ, List, arith, length-set, ◌∙◌, subst}
+use Rattle.std.proofs.Common.{◌≡◌, [], ℕ, List, inl, inr, arith, length-set, ◌∙◌, subst}
+use Rattle.std.proofs.lemmas.Bool.{cases_lt}
 use Rattle.pr_vectors.specs.Vector.{clock_of}
 use Rattle.pr_names.specs.Span.{Span}
 use Rattle.pr_log.specs.Dark.{IsRowRefined}
@@ -39,4 +40,9 @@ loop-n-preserved c =
     ]
 
 pub returns-clause-each : goal.returns-clause-each
-returns-clause-each c n lt = c.loop-n.invariant.done n (omega arith)
+returns-clause-each c n lt other = elim (cases_lt n c.loop-n.n) [
+  | inl here ↦ c.loop-n.invariant.done n here other
+  | inr past ↦
+      let none : clock_of c.args.to.now n ≡ 0 = c.nodes-n-end.ensures.behind n (omega (arith, past)) lt in
+      rw (c.loop-n.invariant.rest n past) (row_none (clock_of c.args.from.now n) (clock_of c.args.to.now n) c.args.target.now _ (omega (arith, none)))
+]

@@ -1,6 +1,8 @@
-use Rattle.std.proofs.Common.{[], arith, length-set, ◌∙◌}
+use Rattle.std.proofs.Common.{◌≡◌, [], inl, inr, arith, length-set, ◌∙◌}
+use Rattle.std.proofs.lemmas.Bool.{cases_lt}
+use Rattle.pr_vectors.specs.Vector.{clock_of}
 use Rattle.pr_stamps.proofs.Places.{done_more, done_same, rest_more}
-use Rattle.pr_gaps.proofs.Covered.{IsNodeCovered, node_covered, node_same}
+use Rattle.pr_gaps.proofs.Covered.{IsNodeCovered, node_covered, node_same, rest_same}
 use Rattle.pr_gaps.proofs.row.Row.cover.Goals as goal
 use Rattle.pr_gaps.proofs.row.Row.cover.Goals.{then-from-to+in_ok-add, else-from-to}
 
@@ -30,4 +32,9 @@ loop-n-preserved c =
     ]
 
 pub returns : goal.returns
-returns c p lt = rw (← c.self.view_is) (c.loop-n.invariant.done p.node (omega arith) p.clock)
+returns c p lt = rw (← c.self.view_is) (elim (cases_lt p.node c.loop-n.n) [
+  | inl here ↦ c.loop-n.invariant.done p.node here p.clock
+  | inr past ↦
+      let none : clock_of c.args.to.now p.node ≡ 0 = c.nodes-n-end.ensures.behind p.node (omega (arith, past)) lt in
+      rest_same c.args.from.now c.args.to.now p.node _ _ none (c.loop-n.invariant.rest p.node past) p.clock
+])

@@ -15,4 +15,9 @@ pub returns : goal.returns
 returns c = is_unpacked _ _ c.loop-n.n c.loop-n.invariant.len c.loop-n.invariant.front c.loop-n.invariant.behind (λ k above lt. omega (arith, above, lt, c.loop-n-test.false, c.fits-few))
 
 pub invariant_of-result : goal.invariant_of-result
-invariant_of-result c = rw (returns c) c.requires
+invariant_of-result c = record {
+  vector = rw (returns c) c.requires;
+  few = omega (arith, c.counted-count.ensures.few);
+  behind = c.counted-count.ensures.behind;
+  exact = c.counted-count.ensures.exact;
+}
