@@ -1,10 +1,10 @@
 // The clocks of a packed vector.
 ghost use Rattle.pr_vectors.specs.Packed.{vector_in};
 ghost use Rattle.pr_vectors.specs.Vector.{IsVector, clock_of, unpacked};
-ghost use Rattle.std.specs.Prelude.{◌≡◌, ◌<◌, IfOk};
+ghost use Rattle.std.specs.Prelude.{◌≡◌, ◌≤◌, ◌<◌, ℕ, IfOk};
 
 use crate::Vector;
-use pr_stamps::NoMemory;
+use pr_stamps::{NODES, NoMemory};
 use std::alloc::Global;
 
 // In place those of the first eight nodes, where no other node counts and each is below 2^32, as mostly. On the heap
@@ -52,6 +52,17 @@ impl Clocks {
         }
     }
 
+    // How many nodes it has a clock of: each behind them has clock 0.
+    pub(crate) fn nodes(&self) -> u32
+        ensures most { result ≤ 32 }
+        ensures behind { (n : ℕ) → result ≤ n → n < 32 → clock_of (vector_in self.now) n ≡ 0 }
+    {
+        match self {
+            Clocks::Few(few) => nodes_of_few(few),
+            Clocks::Near(_) | Clocks::Far(_) => NODES,
+        }
+    }
+
     // The clock of the node.
     pub(crate) fn at(&self, node: u32) -> u64
         requires { node < 32 }
@@ -74,4 +85,11 @@ fn at_few(few: &[u32; 8], node: u32) -> u64
     } else {
         0
     }
+}
+
+fn nodes_of_few(few: &[u32; 8]) -> u32
+    ensures most { result ≤ 32 }
+    ensures behind { (n : ℕ) → result ≤ n → n < 32 → clock_of (unpacked few.now) n ≡ 0 }
+{
+    few.len() as u32
 }

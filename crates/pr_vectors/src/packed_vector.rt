@@ -3,7 +3,7 @@ ghost use Rattle.std.specs.Prelude.{◌≡◌, ◌<◌, ◌↔◌, IfOk, IsTrue}
 
 use crate::Vector;
 use crate::clocks::Clocks;
-use pr_stamps::{NODES, NoMemory};
+use pr_stamps::NoMemory;
 use std::alloc::Global;
 use std::marker::Model;
 
@@ -70,6 +70,11 @@ impl PackedVector {
     pub fn le(&self, other: &Vector) -> bool
         ensures { IsTrue result ↔ Le self.now other.now }
     {
-        (0..NODES).all(|n| self.at(n) <= other.at(n))
+        for n in 0..self.clocks.nodes() {
+            if self.at(n) > other.at(n) {
+                return false;
+            }
+        }
+        true
     }
 }
