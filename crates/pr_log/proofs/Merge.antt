@@ -1,9 +1,9 @@
 -- The merge of the nodes' known writes past a position, in the order of stamps.
-use Rattle.std.proofs.Common.{◌≡◌, ℕ, ◌≤◌, ◌<◌, ◌+◌, zero, suc, List, [], ◌∷◌, length, set, Option, None, Some, Bool, true, false, refl, sym, ◌∙◌, ap, subst, arith, nat_lt, inl, inr, ◌≢◌, cond}
+use Rattle.std.proofs.Common.{◌≡◌, ℕ, ◌≤◌, ◌<◌, ◌+◌, zero, suc, List, [], ◌∷◌, length, replicate, set, Option, None, Some, Bool, true, false, refl, sym, ◌∙◌, ap, subst, arith, nat_lt, inl, inr, ◌≢◌, cond}
 use Rattle.std.specs.Prelude.{◌⊎◌, option_copied}
 use Rattle.std.specs.Borrow.{Bor}
 use Rattle.std.specs.Ordering.{is_eq, nat_cmp}
-use Rattle.std.proofs.lemmas.List.{get_or-set_same, get_or-set_other, length-set}
+use Rattle.std.proofs.lemmas.List.{get_or-replicate, get_or-set_same, get_or-set_other, get_or_past, length-replicate, length-set}
 use Rattle.std.proofs.lemmas.List.Sums.{sum_by-cons}
 use Rattle.std.proofs.lemmas.Bool.Decides.{nat_tests}
 use Rattle.pr_stamps.specs.Point.{Point, Before}
@@ -122,6 +122,21 @@ next_head rows pos sub n w head known node past out behind first = record {
     reached : (head : Option WriteRec) → IsFirstAbove rows n w.stamp.clock head → (x : WriteRec) → Has rows x → x.stamp.node ≡ n → w.stamp.clock < x.stamp.clock → IsReached head x.stamp.clock
     reached None first x has_x node_x above = omega (arith, first x has_x node_x, above)
     reached (Some u) (has_u, node_u, past_u, least) x has_x node_x above = least x has_x node_x above
+
+-- nodes with no known write have no head
+pub rest_heads : (rows : List (List (ℕ × WriteRec))) (pos : List ℕ) (heads : List (Option (Bor WriteRec))) (n : ℕ) → ((x : WriteRec) → Has rows x → x.stamp.node < n) → ((k : ℕ) → n ≤ k → head_of heads k ≡ None) → ((k : ℕ) → k < n → IsFirstAbove rows k (clock_of pos k) (head_of heads k)) → (k : ℕ) → k < 32 → IsFirstAbove rows k (clock_of pos k) (head_of heads k)
+rest_heads rows pos heads n within behind each k lt = elim (less_or k n) [
+  | inl less ↦ each k less
+  | inr past ↦ subst (IsFirstAbove rows k (clock_of pos k)) (sym (behind k past)) (λ x has node. absurd (omega (arith, within x has, node, past)))
+]
+
+pub rest_listed : (heads : List (Option (Bor WriteRec))) (nodes : List ℕ) (count n : ℕ) → n ≤ 32 → ((k : ℕ) → n ≤ k → head_of heads k ≡ None) → AreListed heads nodes count n → AreListed heads nodes count 32
+rest_listed heads nodes count n most behind listed = record {
+  len = listed.len;
+  few = omega (arith, listed.few, most);
+  known = listed.known;
+  all = λ m w lt is. elim (less_or m n) [ inl less ↦ listed.all m w less is | inr past ↦ absurd (some_none w (sym is ∙ behind m past)) ];
+}
 
 -- ---- counting the heads
 
@@ -302,6 +317,19 @@ more_heads rows pos heads n next len lt each first k below = elim (below_or k n 
       subst (λ j. IsFirstAbove rows j (clock_of pos j) (head_of (set heads n next) j)) (sym here)
       (subst (IsFirstAbove rows n (clock_of pos n)) (sym (ap option_copied (get_or-set_same heads n next None (omega (arith, len, lt))))) first)
 ]
+
+-- at first no node has a head
+pub no_heads : (k : ℕ) → head_of (replicate 32 None) k ≡ None
+no_heads k = elim (less_or k 32) [
+  | inl less ↦ ap option_copied (get_or-replicate 32 k None None less)
+  | inr past ↦ ap option_copied (get_or_past (replicate 32 None) k None (omega (arith, past, length-replicate {A = Option (Bor WriteRec)} 32 None)))
+]
+
+-- nodes behind the next one have no head still
+pub behind_more : (heads : List (Option (Bor WriteRec))) (n : ℕ) (next : Option (Bor WriteRec)) → ((k : ℕ) → n ≤ k → head_of heads k ≡ None) → (k : ℕ) → n + 1 ≤ k → head_of (set heads n next) k ≡ None
+behind_more heads n next behind k le =
+    let ne : k ≢ n = (λ e. omega (arith, e, le)) in
+    ap option_copied (get_or-set_other heads n k next None ne) ∙ behind k (omega (arith, le))
 
 -- ---- one turn, and the end
 

@@ -6,7 +6,7 @@ use Rattle.std.proofs.lemmas.List.{get_or-set_same, get_or-set_other}
 use Rattle.pr_stamps.specs.Point.{Point, IsStamp}
 use Rattle.pr_vectors.specs.Vector.{Covers, clock_of}
 use Rattle.pr_inval.specs.declared.write_rec.WriteRec.{WriteRec}
-use Rattle.pr_log.specs.Known.{at_clock, row_of, write_at, Has, IsByStamp, IsAdded, IsAddedAt, IsFirstAbove, IsFirstIn, IsForgotten, IsForgottenUpTo}
+use Rattle.pr_log.specs.Known.{at_clock, row_of, write_at, Has, IsByStamp, IsAdded, IsAddedAt, IsFirstAbove, IsFirstIn, IsForgotten, IsForgottenUpTo, IsWithin}
 use Rattle.pr_log.proofs.Clocks.{less_or, same_some, some_none, is_some}
 use Rattle.pr_log.proofs.Places.{past_end, this_or_other}
 
@@ -156,3 +156,26 @@ none_by_stamp rows none p x is = absurd (some_none x (sym is ∙ ap (λ (l : Lis
 
 pub none_has : (rows : List (List (ℕ × WriteRec))) → ((n : ℕ) → row_of rows n ≡ []) → (x : WriteRec) → ¬ Has rows x
 none_has rows none x has = some_none x (sym has ∙ ap (λ (l : List (ℕ × WriteRec)). at_clock l x.stamp.clock) (none x.stamp.node))
+
+-- ---- the nodes that have known writes
+
+pub none_within : (rows : List (List (ℕ × WriteRec))) (n : ℕ) → ((k : ℕ) → row_of rows k ≡ []) → IsWithin n rows
+none_within rows n none p x is = absurd (some_none x (sym is ∙ ap (λ (l : List (ℕ × WriteRec)). at_clock l p.clock) (none p.node)))
+
+pub within_more : (rows : List (List (ℕ × WriteRec))) (n m : ℕ) → n ≤ m → IsWithin n rows → IsWithin m rows
+within_more rows n m le within p x is = omega (arith, le, within p x is)
+
+pub put_within : (a b : List (List (ℕ × WriteRec))) (write : WriteRec) (n m : ℕ) → n ≤ m → write.stamp.node < m → IsPutAt (write_at a) (write_at b) write → IsWithin n a → IsWithin m b
+put_within a b write n m le lt put within p x is = elim (point_or p write.stamp) [
+  | inl here ↦ subst (λ (q : Point). q.node < m) (sym here) lt
+  | inr other ↦ omega (arith, le, within p x (sym (put.others p other) ∙ is))
+]
+
+pub forgotten_within : (a b : List (List (ℕ × WriteRec))) (cut : List ℕ) (n : ℕ) → length b ≡ 32 → ((k : ℕ) → k < 32 → IsForgottenUpTo (clock_of cut k) (row_of a k) (row_of b k)) → IsWithin n a → IsWithin n b
+forgotten_within a b cut n len_b each within p x is = elim (less_or p.node 32) [
+  | inl known ↦ elim (less_or (clock_of cut p.node) p.clock) [
+    | inl above ↦ within p x (sym ((each p.node known).kept p.clock above) ∙ is)
+    | inr below ↦ absurd (some_none x (sym is ∙ (each p.node known).gone p.clock below))
+  ]
+  | inr past ↦ absurd (some_none x (sym is ∙ ap (λ (l : List (ℕ × WriteRec)). at_clock l p.clock) (past_end b p.node [] (omega (arith, len_b, past)))))
+]

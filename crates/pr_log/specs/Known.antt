@@ -53,6 +53,10 @@ Has rows x = write_at rows x.stamp ≡ Some x
 abbrev pub IsByStamp : List (List (ℕ × WriteRec)) → Type 0
 IsByStamp rows = (p : Point) (x : WriteRec) → write_at rows p ≡ Some x → (x.stamp ≡ p) × IsStamp p
 
+-- only the first so many nodes have known writes
+abbrev pub IsWithin : ℕ → List (List (ℕ × WriteRec)) → Type 0
+IsWithin nodes rows = (p : Point) (x : WriteRec) → write_at rows p ≡ Some x → p.node < nodes
+
 -- no known write has the stamp
 abbrev pub IsNew : List (List (ℕ × WriteRec)) → Point → Type 0
 IsNew rows p = (x : WriteRec) → Has rows x → ¬ (x.stamp ≡ p)

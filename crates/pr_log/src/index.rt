@@ -23,18 +23,20 @@ use std::sync::ledger::Ledger;
 #[derive(Drop)]
 pub struct Index {
     rows: Vec<Writes>,
+    // Only the first so many nodes have known writes.
+    nodes: u32,
 }
 
 impl Model for Index {
-    ghost use Rattle.std.specs.Prelude.{◌≡◌, List, ℕ, length};
+    ghost use Rattle.std.specs.Prelude.{◌≡◌, ◌≤◌, List, ℕ, length};
     ghost use Rattle.pr_inval.specs.declared.write_rec.WriteRec.{WriteRec};
-    ghost use Rattle.pr_log.specs.Known.{IsByStamp};
+    ghost use Rattle.pr_log.specs.Known.{IsByStamp, IsWithin};
 
     ghost Value = { List (List (ℕ × WriteRec)) };
 
     ghost view = { λ i. i.rows.items };
 
-    ghost invariant = { λ i. (length i.rows.items ≡ 32) × IsByStamp i.rows.items };
+    ghost invariant = { λ i. (length i.rows.items ≡ 32) × IsByStamp i.rows.items × (i.nodes ≤ 32) × IsWithin i.nodes i.rows.items };
 }
 
 impl Index {
@@ -44,7 +46,7 @@ impl Index {
         ensures few { IfOk result (λ i. (pos : List ℕ) → uncovered i pos ≡ 0) }
     {
         let rows = rows(alloc)?;
-        Ok(Index { rows })
+        Ok(Index { rows, nodes: 0 })
     }
 
     // Keeps the write, if no known write has its stamp. It takes time logarithmic in the names of its node, and in its
@@ -54,8 +56,9 @@ impl Index {
         ensures few { OnOk result ((pos : List ℕ) → uncovered self.new pos ≤ uncovered self.old pos + 1) }
         ensures err { OnErr result (self.new ≡ self.old) }
     {
-        let node = write.stamp.node() as usize;
-        self.rows[node].add(write)
+        let node = write.stamp.node();
+        self.nodes = self.nodes.max(node + 1);
+        self.rows[node as usize].add(write)
     }
 
     // Drops the writes that the cut covers, in time linear in the known writes and their names.
@@ -64,6 +67,14 @@ impl Index {
         ensures few { (pos : List ℕ) → uncovered self.new pos ≤ uncovered self.old pos }
     {
         forget(&mut self.rows, cut);
+    }
+
+    /// How many nodes there are up to the last that has known writes, or had some, in constant time.
+    pub fn nodes(&self) -> u32
+        ensures most { result ≤ 32 }
+        ensures within { (x : WriteRec) → Has self.now x → x.stamp.node < result }
+    {
+        self.nodes
     }
 
     /// The known write of the node with the least clock above this one, in time logarithmic in the node's writes, as
@@ -150,7 +161,7 @@ impl Index {
     {
         self.by_stamp();
         let mut left = most;
-        for n in 0..NODES {
+        for n in 0..self.nodes() {
             if self.may_have_past(n, pos.at(n), sub, &mut left) {
                 return true;
             }

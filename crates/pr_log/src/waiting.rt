@@ -9,7 +9,6 @@ use crate::Steps;
 use crate::index::Index;
 use pr_inval::WriteRec;
 use pr_sets::NameSet;
-use pr_stamps::NODES;
 use pr_vectors::Vector;
 use std::sync::ledger::Ledger;
 
@@ -117,14 +116,14 @@ fn ask_after(looks: usize, ask: usize) -> usize {
 fn heads<'a, L: Ledger>(index: &'a Index, pos: &Vector, steps: &mut Steps<L>) -> (Heads<'a>, Nodes)
     ensures each { (n : ℕ) → n < 32 → IsFirstAbove index.now n (clock_of pos.now n) (head_of result.0 n) }
     ensures listed { AreListed result.0 result.1.at result.1.count 32 }
-    ensures steps { steps.new ≡ steps.old + 32 }
+    ensures steps { steps.new ≤ steps.old + 32 }
 {
     let mut heads = [None; 32];
     let mut nodes = Nodes {
         at: [0; 32],
         count: 0,
     };
-    for n in 0..NODES {
+    for n in 0..index.nodes() {
         heads[n as usize] = index.next(n, pos.at(n), steps);
         nodes.put(&heads, n);
     }

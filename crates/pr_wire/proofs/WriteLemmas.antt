@@ -1,5 +1,5 @@
 -- Turns of the loops that write.
-use Rattle.std.proofs.Common.{◌≡◌, ℕ, suc, ◌+◌, ◌-◌, ◌^◌, ◌<◌, ◌≤◌, take, drop, List, [], ◌∷◌, ◌++◌, length, refl, sym, ap, ◌∙◌, append_assoc, arith}
+use Rattle.std.proofs.Common.{◌≡◌, ℕ, zero, suc, ◌+◌, ◌-◌, ◌^◌, ◌<◌, ◌≤◌, take, drop, List, [], ◌∷◌, ◌++◌, length, refl, sym, ap, ◌∙◌, append_assoc, arith}
 use Rattle.std.specs.Prelude.{flat_map, ◌%◌}
 use Rattle.std.specs.Int.{byte_at}
 use Rattle.std.specs.List.{refill}
@@ -28,8 +28,16 @@ count_rises v w n count all lt rise so_far = omega (arith, ap length (rising v w
 pub count_stays : (v w : List ℕ) (n count all : ℕ) → n < 32 → clock_of w n ≤ clock_of v n → count + length (above v w n (32 - n)) ≡ all → count + length (above v w (n + 1) (32 - (n + 1))) ≡ all
 count_stays v w n count all lt le so_far = omega (arith, ap length (staying v w n lt le))
 
-pub count_ends : (v w : List ℕ) (n count all : ℕ) → 32 ≤ n → count + length (above v w n (32 - n)) ≡ all → count ≡ all
-count_ends v w n count all le so_far = omega (arith, ap length (ended v w n le))
+-- a vector that counts no further has nothing above another
+none_above : (v w : List ℕ) (n k : ℕ) → n + k ≡ 32 → ((m : ℕ) → n ≤ m → m < 32 → clock_of w m ≡ 0) → above v w n k ≡ []
+unfolding above
+none_above v w n zero is none = refl
+none_above v w n (suc k) is none =
+    above_same v w n k (omega (arith, none n (omega arith) (omega (arith, is))))
+    ∙ none_above v w (n + 1) k (omega (arith, is)) (λ m le lt. none m (omega (arith, le)) lt)
+
+pub count_ends : (v w : List ℕ) (n count all : ℕ) → n ≤ 32 → ((m : ℕ) → n ≤ m → m < 32 → clock_of w m ≡ 0) → count + length (above v w n (32 - n)) ≡ all → count ≡ all
+count_ends v w n count all le none so_far = omega (arith, so_far, ap length (none_above v w n (32 - n) (omega (arith, le)) none))
 
 pub entry_rises : (v w : List ℕ) (n : ℕ) (old node new all : List ℕ) → n < 32 → clock_of v n < clock_of w n → node ≡ old ++ n ∷ [] → new ≡ node ++ eight (clock_of w n)
     → old ++ flat_map entry_text (above v w n (32 - n)) ≡ all → new ++ flat_map entry_text (above v w (n + 1) (32 - (n + 1))) ≡ all

@@ -12,7 +12,7 @@ fn count_above(from: &Vector, to: &Vector) -> u8
     ensures most { result ≤ 32 }
 {
     let mut count = 0;
-    for n in 0..NODES {
+    for n in 0..to.nodes() {
         if from.at(n) < to.at(n) {
             count += 1;
         }

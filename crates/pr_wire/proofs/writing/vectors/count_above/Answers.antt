@@ -10,13 +10,13 @@ loop-n-preserved c =
     elim c.if-at.branch [
       | then-at w ↦
           let rise : clock_of c.args.from.now c.loop-n.n < clock_of c.args.to.now c.loop-n.n = omega (arith, w.if-at.true, c.at.ensures.value, c.at-in-loop-n.ensures.value) in
-          let turn = count_rises c.args.from.now c.args.to.now c.loop-n.n c.loop-n.count (length (above c.args.from.now c.args.to.now 0 32)) c.loop-n-test.true rise c.loop-n.invariant.all in
+          let turn = count_rises c.args.from.now c.args.to.now c.loop-n.n c.loop-n.count (length (above c.args.from.now c.args.to.now 0 32)) (omega (arith, c.loop-n-test.true, c.nodes-n-end.ensures.most)) rise c.loop-n.invariant.all in
           record { all = omega (arith, turn, w.count-is); few = omega (arith, c.loop-n.invariant.few, w.count-is) }
       | else-at w ↦
           let stay : clock_of c.args.to.now c.loop-n.n ≤ clock_of c.args.from.now c.loop-n.n = omega (arith, w.if-at.false, c.at.ensures.value, c.at-in-loop-n.ensures.value) in
-          let turn = count_stays c.args.from.now c.args.to.now c.loop-n.n c.loop-n.count (length (above c.args.from.now c.args.to.now 0 32)) c.loop-n-test.true stay c.loop-n.invariant.all in
+          let turn = count_stays c.args.from.now c.args.to.now c.loop-n.n c.loop-n.count (length (above c.args.from.now c.args.to.now 0 32)) (omega (arith, c.loop-n-test.true, c.nodes-n-end.ensures.most)) stay c.loop-n.invariant.all in
           record { all = omega (arith, turn, w.count-is); few = omega (arith, c.loop-n.invariant.few, w.count-is) }
     ]
 
 pub returns-clause-count : goal.returns-clause-count
-returns-clause-count c = count_ends c.args.from.now c.args.to.now c.loop-n.n c.loop-n.count (length (above c.args.from.now c.args.to.now 0 32)) c.loop-n-test.false c.loop-n.invariant.all
+returns-clause-count c = count_ends c.args.from.now c.args.to.now c.loop-n.n c.loop-n.count (length (above c.args.from.now c.args.to.now 0 32)) (omega (arith, c.loop-n.auto.n-end, c.nodes-n-end.ensures.most)) (λ m le lt. c.nodes-n-end.ensures.behind m (omega (arith, c.loop-n-test.false, le)) lt) c.loop-n.invariant.all
