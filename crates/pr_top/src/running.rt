@@ -26,6 +26,7 @@ use pr_stamps::{NoMemory, Seq};
 use pr_story::Event;
 use pr_text::{heads, line, ok, unmet};
 use std::alloc::Global;
+use std::mem;
 
 /// Runs a script in one thread, and writes its transcript: the head lines first, and each command's lines before the next
 /// command runs.
@@ -95,7 +96,8 @@ pub struct Expected {
     pub text: Bytes,
 }
 
-// Writes the `ok` line of a run that came to its end.
+// Writes the `ok` line of a run that came to its end. What the run holds goes back with the program, in one piece: entry
+// by entry it would take its part of the time.
 fn transcript<K: Sink>(
     alloc: Global,
     script: &Script,
@@ -108,7 +110,9 @@ fn transcript<K: Sink>(
     ensures rises { K.faults out.old ≤ K.faults out.new }
 {
     let run = ended?;
-    end(alloc, script, &run, out)
+    let told = end(alloc, script, &run, out);
+    mem::forget(run);
+    told
 }
 
 /// Runs a script in one thread, and writes its transcript up to its `ok` line: the head lines first, and each command's

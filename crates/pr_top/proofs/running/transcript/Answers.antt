@@ -30,16 +30,16 @@ returns-clause-told g c = λ o sound h before risen le k.
     let s = c.args.script.now in
     let ds = s.decls.list in
     let d = g.K.Sink.text c.args.out.now in
-    let z = g.K.Sink.text c.end.new.out in
+    let z = g.K.Sink.text c.end-told.new.out in
     let failed : Type 0 = HasRisen risen (g.K.Sink.faults c.args.out.now) in
-    let later : Type 0 = HasRisen (g.K.Sink.faults c.args.out.now) (g.K.Sink.faults c.end.new.out) in
-    let now : Type 0 = HasRisen risen (g.K.Sink.faults c.end.new.out) in
+    let later : Type 0 = HasRisen (g.K.Sink.faults c.args.out.now) (g.K.Sink.faults c.end-told.new.out) in
+    let now : Type 0 = HasRisen risen (g.K.Sink.faults c.end-told.new.out) in
     let was = c.in_ok-run.was in
     let all = subst (λ (r : Result Run Halt). HasRunUnendedTo o sound s h failed before d r) was k in
     let e = c.in_ok-run.run'.engine in
     let u = c.in_ok-run.run'.unmet in
     let come = all.0 in
     let tells = running_tells (declared_of ds) come.attached h e come.running in
-    end_told o sound s h e u come all.1 before d all.2 now z c.end.result
-    (writes_map (Option Expected) later now d z (ok_line (length ds + length h)) c.end.result (risen_then risen (g.K.Sink.faults c.args.out.now) (g.K.Sink.faults c.end.new.out) le) (c.end.ensures.told h tells))
-    c.end.ensures.unmet c.end.ensures.kept
+    end_told o sound s h e u come all.1 before d all.2 now z c.end-told.result
+    (writes_map (Option Expected) later now d z (ok_line (length ds + length h)) c.end-told.result (risen_then risen (g.K.Sink.faults c.args.out.now) (g.K.Sink.faults c.end-told.new.out) le) (c.end-told.ensures.told h tells))
+    c.end-told.ensures.unmet c.end-told.ensures.kept
