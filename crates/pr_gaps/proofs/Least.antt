@@ -82,6 +82,22 @@ least_more T v n (Some a) b r (lt, covers, out, least) (node, one, most, outside
       ],
     )
 
+-- the nodes from n on have no covered point
+pub least_behind : (T : Point → Type 0) (v : List ℕ) (n : ℕ) (a : Option Point) → n ≤ 32 → ((k : ℕ) → n ≤ k → k < 32 → clock_of v k ≡ 0) → IsLeastOutside T v n a → IsLeastOutside T v 32 a
+least_behind T v n None le none least = λ p lt covers. elim (less_or p.node n) [
+  | inl before ↦ least p before covers
+  | inr past ↦ absurd (omega (arith, covers.0, covers.1, none p.node past lt))
+]
+least_behind T v n (Some a) le none (lt, covers, out, least) = (
+  omega (arith, lt, le),
+  covers,
+  out,
+  λ q below counts untold. elim (less_or q.node n) [
+    | inl before ↦ least q before counts untold
+    | inr past ↦ absurd (omega (arith, counts.0, counts.1, none q.node past below))
+  ],
+)
+
 -- ---- one node
 
 pub clock_min : (row : List (List (ℕ × ℕ))) (own n most run m : ℕ) (v : List ℕ) → m ≡ min run most → most ≡ clock_of v n → ¬ (n ≡ own) → ((c : ℕ) → 1 ≤ c → c ≤ run → HasPoint row (record { clock = c; node = n })) → ¬ HasPoint row (record { clock = run + 1; node = n }) → IsLastClock (IsToldIn own v row) v n m

@@ -12,7 +12,7 @@ ghost use Rattle.std.specs.Prelude.{◌≡◌, ◌≤◌, ◌<◌, ◌+◌, ◌�
 use crate::row::Row;
 use pr_names::Name;
 use pr_sets::NameSet;
-use pr_stamps::{NODES, NoMemory, Seq, Stamp};
+use pr_stamps::{NoMemory, Seq, Stamp};
 use pr_vectors::Vector;
 use std::alloc::Global;
 use std::marker::Model;
@@ -175,8 +175,9 @@ fn raise(vector: &mut Vector, clock: u64, node: u32)
 fn first_untold(row: &Row, own: u32, vector: &Vector) -> Option<Stamp>
     ensures { IsLeastOutside (IsToldIn own vector.now row.now) vector.now 32 result }
 {
+    let count = vector.nodes();
     let mut least: Option<Stamp> = None;
-    for n in 0..NODES {
+    for n in 0..count {
         if let Some(found) = untold(row, own, n, vector) {
             least = Some(lesser(&least, &found));
         }
@@ -218,7 +219,7 @@ fn last_precise(row: &Row, own: u32, vector: &Vector) -> Vector
     ensures range { IsVector result }
 {
     let mut precise = Vector::zero();
-    for n in 0..NODES {
+    for n in 0..vector.nodes() {
         raise(&mut precise, precise_clock(row, own, n, vector), n);
     }
     let _ = precise.at(0);
