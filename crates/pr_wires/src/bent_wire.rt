@@ -6,7 +6,7 @@ ghost use Rattle.pr_wires.specs.Counters.{one_more};
 ghost use Rattle.std.specs.List.{list_any};
 ghost use Rattle.std.specs.Prelude.{◌≡◌, ◌≤◌, ◌<◌, ◌+◌, ◌++◌, ◌∷◌, [], ◌↔◌, if◌then◌else◌, IfOk, IsErr, IsTrue, MatchResult, OnErr, bit_xor, false, length, take};
 
-use crate::behind::behind;
+use crate::behind::forget;
 use crate::causes::Causes;
 use crate::{Bend, Wire};
 use arrayvec::ArrayVec;
@@ -139,7 +139,7 @@ impl BentWire {
     {
         let len = buf.len();
         buf.copy_from_slice(&self.coming.as_slice()[..len]);
-        self.coming = behind(&self.coming, len);
+        forget(&mut self.coming, len);
         self.taken = self.taken.saturating_add(len as u64);
         self.under -= len;
     }

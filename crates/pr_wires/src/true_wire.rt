@@ -2,7 +2,7 @@
 ghost use Rattle.std.specs.Prelude.{◌≡◌, ◌≤◌, [], drop, length, None, Some, true};
 
 use crate::Wire;
-use crate::behind::behind;
+use crate::behind::forget;
 use arrayvec::ArrayVec;
 use pr_ports::Failed;
 use std::marker::Model;
@@ -39,10 +39,8 @@ impl Wire for TrueWire {
     ghost state = { λ w. record { faults = 0; ends = 0; under = length w; given = None; taken = None; held = Some w; sound = true } };
 
     fn put(&mut self, piece: &[u8]) -> Result<usize, Failed> {
-        if self.at > 0 {
-            self.bytes = behind(&self.bytes, self.at);
-            self.at = 0;
-        }
+        forget(&mut self.bytes, self.at);
+        self.at = 0;
         let _ = self.bytes.try_extend_from_slice(piece);
         Ok(piece.len())
     }
