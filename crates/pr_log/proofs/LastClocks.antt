@@ -161,7 +161,7 @@ kept_above row clocks c o are (k, w, at, name, past) = let l = are.last k w at i
 -- ---- walks over the clocks
 
 -- the first entry is the name's, or the name is in the rest
-first_or_rest : (es rest : List (List ℕ × ℕ)) (name o : List ℕ) (last c : ℕ) → es ≡ (name, last) ∷ rest → IsAbove es c o → ((name ≡ o) × (c < last)) ⊎ IsAbove rest c o
+pub first_or_rest : (es rest : List (List ℕ × ℕ)) (name o : List ℕ) (last c : ℕ) → es ≡ (name, last) ∷ rest → IsAbove es c o → ((name ≡ o) × (c < last)) ⊎ IsAbove rest c o
 first_or_rest es rest name o last c is (k, at, past) = elim (either_test (is_key o name)) [
   | inl equal ↦
       let same : last ≡ k = same_some last k (sym (ap (λ t. cond t (Some last) (clock_by rest o)) equal) ∙ opened) in

@@ -13,4 +13,5 @@ pub mod Counts
 pub mod LastClocks
 pub mod Ranges
 pub mod Past
+pub mod Many
 pub mod Ordered

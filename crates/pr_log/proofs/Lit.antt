@@ -205,3 +205,13 @@ set_of_dark (Ok set) own dark from to names len one same each = record {
   no_others = λ o name is. is_dark own dark from to o ((each o name).0 (sym (same o name) ∙ is));
 }
 set_of_dark (Err e) own dark from to names len one same each = tt
+
+-- behind the last node that has a clock no point lies between
+pub dark_behind : (own : ℕ) (dark : List (List (ℕ × List Span))) (from to : List ℕ) (n : ℕ) (o : List ℕ) (now : Bool) → n ≤ 32 → ((k : ℕ) → n ≤ k → k < 32 → clock_of to k ≡ 0) → IsTrue now ↔ IsDarkBelow own dark from to n o → IsTrue now ↔ IsDarkBelow own dark from to 32 o
+dark_behind own dark from to n o now most behind so_far = (
+  (λ h. let k = so_far.0 h in (k.0, omega (arith, k.1, most), k.2, k.3)),
+  (λ k. elim (less_or k.0 n) [
+    | inl less ↦ so_far.1 (k.0, less, k.2, k.3)
+    | inr past ↦ absurd (omega (arith, behind k.0 past k.1, k.3.1, k.3.2))
+  ]),
+)

@@ -121,3 +121,13 @@ set_of_omitted (Ok set) rows from to sub names by_stamp one same each = record {
   no_others = λ o name is. is_omitted rows from to sub o ((each o name).0 (sym (same o name) ∙ is));
 }
 set_of_omitted (Err e) rows from to sub names by_stamp one same each = tt
+
+-- behind the last node that has a clock none is omitted
+pub omitted_behind : (rows : List (List (ℕ × WriteRec))) (from to : List ℕ) (sub : List Span) (n : ℕ) (o : List ℕ) (now : Bool) → n ≤ 32 → ((k : ℕ) → n ≤ k → k < 32 → clock_of to k ≡ 0) → IsTrue now ↔ IsOmittedBelow rows from to sub n o → IsTrue now ↔ IsOmittedBelow rows from to sub 32 o
+omitted_behind rows from to sub n o now most behind so_far = (
+  (λ h. let k = so_far.0 h in (k.0, omega (arith, k.1, most), k.2)),
+  (λ k. elim (less_or k.0 n) [
+    | inl less ↦ so_far.1 (k.0, less, k.2)
+    | inr past ↦ absurd (omega (arith, behind k.0 past k.1, k.2.1.4, k.2.1.5))
+  ]),
+)

@@ -22,10 +22,10 @@ up_to_of rows n c row is up_to x known node = elim (less_or c x.stamp.clock) [
   | inr within ↦ within
 ]
 
-above_in : (rows : List (List (ℕ × WriteRec))) (n c : ℕ) (row : List (ℕ × WriteRec)) (o : List ℕ) → row ≡ row_of rows n → WroteAbove rows n c o → IsWrittenAbove row c o
+pub above_in : (rows : List (List (ℕ × WriteRec))) (n c : ℕ) (row : List (ℕ × WriteRec)) (o : List ℕ) → row ≡ row_of rows n → WroteAbove rows n c o → IsWrittenAbove row c o
 above_in rows n c row o is (x, known, node, name, past) = (x.stamp.clock, x, in_row rows n row x is known node, name, past)
 
-above_of : (rows : List (List (ℕ × WriteRec))) (n c : ℕ) (row : List (ℕ × WriteRec)) (o : List ℕ) → IsByStamp rows → row ≡ row_of rows n → IsWrittenAbove row c o → WroteAbove rows n c o
+pub above_of : (rows : List (List (ℕ × WriteRec))) (n c : ℕ) (row : List (ℕ × WriteRec)) (o : List ℕ) → IsByStamp rows → row ≡ row_of rows n → IsWrittenAbove row c o → WroteAbove rows n c o
 above_of rows n c row o by_stamp is (k, x, at, name, past) =
     let here : at_clock (row_of rows n) k ≡ Some x = subst (λ (l : List (ℕ × WriteRec)). at_clock l k ≡ Some x) is at in
     let stamp = at_row rows n k x by_stamp here in

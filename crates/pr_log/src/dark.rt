@@ -78,7 +78,7 @@ impl Dark {
     {
         let _ = to.at(0);
         let mut names = Collector::new(alloc);
-        for n in 0..NODES {
+        for n in 0..to.nodes() {
             let row = &self.rows[n as usize];
             collect_row(row, n == own, from.at(n), to.at(n), &mut names)?;
         }

@@ -2,6 +2,7 @@
 ghost use Rattle.pr_log.specs.Sets.{is_gathered};
 ghost use Rattle.pr_log.specs.Known.{Has, IsAdded, IsByStamp, IsFirstAbove, IsForgotten, IsForgottenUpTo, IsOmittedBetween, IsOmittedOf, IsWaiting, uncovered};
 ghost use Rattle.pr_log.specs.Latest.{WroteAbove};
+ghost use Rattle.pr_log.specs.Many.{IsSetWithin};
 ghost use Rattle.pr_names.specs.Name.{IsName};
 ghost use Rattle.pr_sets.specs.Spans.{IsSetOf, has};
 ghost use Rattle.pr_inval.specs.declared.write_rec.WriteRec.{WriteRec};
@@ -9,6 +10,7 @@ ghost use Rattle.pr_vectors.specs.Vector.{clock_of};
 ghost use Rattle.std.specs.Prelude.{◌≡◌, ◌≤◌, ◌<◌, ◌+◌, ◌⊎◌, ◌↔◌, ℕ, List, [], length, slice_index_or, IfNone, IfOk, IfSome, IsTrue, OnErr, OnOk, Some, false, option_copied};
 
 use crate::Steps;
+use crate::between::only_between;
 use crate::collector::Collector;
 use crate::writes::Writes;
 use pr_inval::WriteRec;
@@ -106,10 +108,58 @@ impl Index {
     {
         let mut names = Collector::new(alloc);
         self.by_stamp();
-        for n in 0..NODES {
+        for n in 0..to.nodes() {
             self.omit(n, from.at(n), to.at(n), sub, &mut names)?;
         }
         names.union()
+    }
+
+    // The same; or where one node alone has points between the vectors, of which none lies past the end, and more than so
+    // many intervals hold its names, the first of them, with one interval more.
+    pub(crate) fn omitted_within(
+        &self,
+        alloc: Global,
+        from: &Vector,
+        to: &Vector,
+        sub: &NameSet,
+        most: usize,
+    ) -> Result<NameSet, NoMemory>
+        ensures { IfOk result (λ set. IsSetWithin most set (IsOmittedBetween self.now from.now to.now sub.now)) }
+    {
+        match self.late_alone(from, to) {
+            Some(node) => self.omitted_alone(alloc, node, from, sub, most),
+            None => self.omitted(alloc, from, to, sub),
+        }
+    }
+
+    // The one node with points between the vectors, where no known write of it is past the end, and it has more writes
+    // between than names.
+    fn late_alone(&self, from: &Vector, to: &Vector) -> Option<u32>
+        ensures range { IfSome result (λ n. n < 32) }
+        ensures alone { IfSome result (λ n. (k : ℕ) → k < 32 → clock_of from.now k < clock_of to.now k → k ≡ n) }
+        ensures up_to { IfSome result (λ n. (x : WriteRec) → Has self.now x → x.stamp.node ≡ n → x.stamp.clock ≤ clock_of to.now n) }
+    {
+        let node = only_between(from, to)?;
+        if self.is_up_to(node, to.at(node)) && self.is_much_above(node, from.at(node)) {
+            return Some(node);
+        }
+        None
+    }
+
+    // The names of the node's writes past the vector that are none of these, or where they are many the first of them.
+    fn omitted_alone(
+        &self,
+        alloc: Global,
+        writer: u32,
+        from: &Vector,
+        sub: &NameSet,
+        most: usize,
+    ) -> Result<NameSet, NoMemory>
+        requires { writer < 32 }
+        ensures set { IfOk result (λ set. IsSetWithin most set (λ o. (has sub.now o ≡ false) × WroteAbove self.now writer (clock_of from.now writer) o)) }
+        ensures by_stamp { IsByStamp self.now }
+    {
+        self.rows[writer as usize].first_outside(alloc, from.at(writer), sub, most)
     }
 
     // Adds the names of a node's writes above one clock, up to another, that are none of these: where none is past the

@@ -1,5 +1,6 @@
 // The clocks of the latest writes of one node.
 ghost use Rattle.pr_log.specs.Latest.{IsAbove, IsLeftAbove, IsRaised};
+ghost use Rattle.pr_log.specs.Many.{IsSetWithin};
 ghost use Rattle.pr_log.specs.Ranges.{range_end};
 ghost use Rattle.pr_log.specs.Sets.{is_gathered};
 ghost use Rattle.pr_names.specs.Name.{IsName};
@@ -107,6 +108,30 @@ impl Latest {
                 put_outside(alloc, &mut above, sub, name)?;
             }
         }
+        Ok(above)
+    }
+
+    // The names with a write above the clock that are none of these; or where more than so many intervals hold them, the
+    // first of them, with one interval more. It takes time linear in the names that come up to the last of these.
+    pub fn first_above(
+        &self,
+        alloc: Global,
+        clock: u64,
+        sub: &NameSet,
+        most: usize,
+    ) -> Result<NameSet, NoMemory>
+        ensures { IfOk result (λ set. IsSetWithin most set (λ o. (has sub.now o ≡ false) × IsAbove self.now clock o)) }
+    {
+        let mut above = NameSet::empty(alloc);
+        for (name, last) in self.clocks.iter() {
+            if above.parts().len() > most {
+                return Ok(above);
+            }
+            if clock < *last {
+                put_outside(alloc, &mut above, sub, name)?;
+            }
+        }
+        let _ = above.parts();
         Ok(above)
     }
 

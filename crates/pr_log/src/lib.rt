@@ -1,6 +1,7 @@
 //! The causal log of a node: which names are dark at which points, and the writes that are known.
 #![tactic(auto)]
 
+mod between;
 mod by_clock;
 mod collector;
 mod dark;

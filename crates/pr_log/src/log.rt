@@ -2,6 +2,7 @@
 ghost use Rattle.pr_inval.specs.declared.write_rec.WriteRec.{WriteRec};
 ghost use Rattle.pr_log.specs.Known.{Has, IsNew, uncovered};
 ghost use Rattle.pr_log.specs.Log.{IsAddedOwn, IsCut, IsDarkIn, IsDarkened, IsNewLog, IsOmittedIn, IsRefined};
+ghost use Rattle.pr_log.specs.Many.{IsSetWithin};
 ghost use Rattle.pr_log.specs.Waiting.{IsNextOf};
 ghost use Rattle.pr_sets.specs.Spans.{IsSetOf};
 ghost use Rattle.pr_vectors.specs.Vector.{Covers, IsVector, Le, clock_of, join_of};
@@ -215,6 +216,24 @@ impl Log {
         ensures { IfOk result (λ set. IsSetOf set (IsOmittedIn self.now from.now to.now sub.now)) }
     {
         self.known.omitted(self.alloc, from, to, sub)
+    }
+
+    /// The names that `omitted_between` finds; or where more than so many intervals hold them, in every set of them, just
+    /// some of them, in more intervals as well. It takes the time of `omitted_between`. But where one node alone has points
+    /// between the vectors, no known write past the end, and more writes between than names, it looks at the node's names
+    /// in order, and stops behind the first whose intervals are more.
+    pub fn omitted_within(
+        &self,
+        from: &Vector,
+        to: &Vector,
+        sub: &NameSet,
+        most: usize,
+    ) -> Result<NameSet, NoMemory>
+        requires cut { Le self.now.cut from.now }
+        requires to { Le to.now (join_of from.now self.now.vector) }
+        ensures { IfOk result (λ set. IsSetWithin most set (IsOmittedIn self.now from.now to.now sub.now)) }
+    {
+        self.known.omitted_within(self.alloc, from, to, sub, most)
     }
 }
 

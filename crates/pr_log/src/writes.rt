@@ -1,10 +1,11 @@
 // The known writes of one node.
 ghost use Rattle.pr_log.specs.Known.{IsAddedAt, IsFirstIn, IsForgottenUpTo, IsUpTo, at_clock, count_above};
 ghost use Rattle.pr_log.specs.Latest.{IsWrittenAbove};
+ghost use Rattle.pr_log.specs.Many.{IsSetWithin};
 ghost use Rattle.pr_log.specs.Sets.{is_gathered};
 ghost use Rattle.pr_names.specs.Name.{IsName};
 ghost use Rattle.pr_sets.specs.Spans.{has};
-ghost use Rattle.std.specs.Prelude.{◌≡◌, ◌≤◌, ◌<◌, ◌+◌, ◌⊎◌, ◌↔◌, ℕ, List, false, [], IfNone, IfSome, IsSome, IsTrue, OnErr, OnOk, None, is_some, option_copied};
+ghost use Rattle.std.specs.Prelude.{◌≡◌, ◌≤◌, ◌<◌, ◌+◌, ◌⊎◌, ◌↔◌, ℕ, List, false, [], IfNone, IfOk, IfSome, IsSome, IsTrue, OnErr, OnOk, None, is_some, option_copied};
 ghost use Rattle.pr_stamps.specs.Point.{IsStamp};
 
 use crate::by_clock::ByClock;
@@ -117,6 +118,20 @@ impl Writes {
         ensures { OnOk result ((o : List ℕ) → IsName o → IsTrue (is_gathered names.new o) ↔ (IsTrue (is_gathered names.old o) ⊎ ((has sub.now o ≡ false) × IsWrittenAbove self.now clock o))) }
     {
         self.latest.gather(clock, sub, names)
+    }
+
+    // The same names as a set; or where more than so many intervals hold them, the first of them, with one interval more,
+    // in time linear in the names up to the last of these.
+    pub fn first_outside(
+        &self,
+        alloc: Global,
+        clock: u64,
+        sub: &NameSet,
+        most: usize,
+    ) -> Result<NameSet, NoMemory>
+        ensures { IfOk result (λ set. IsSetWithin most set (λ o. (has sub.now o ≡ false) × IsWrittenAbove self.now clock o)) }
+    {
+        self.latest.first_above(alloc, clock, sub, most)
     }
 
     // Whether no write is known to be past the clock.

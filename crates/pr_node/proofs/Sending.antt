@@ -1,17 +1,22 @@
 -- What the log tells of the names and writes ahead of a position.
-use Rattle.std.proofs.Common.{◌≡◌, ℕ, ◌<◌, ◌≤◌, ◌⊎◌, inl, inr, List, [], length, max, min, refl, sym, ◌∙◌, ap, subst, arith}
+use Rattle.std.proofs.Common.{◌≡◌, ℕ, ◌<◌, ◌≤◌, ◌⊎◌, inl, inr, List, [], ◌∷◌, length, max, min, refl, sym, ◌∙◌, ap, subst, arith}
+use Rattle.std.proofs.lemmas.Bool.{false≢true}
 use Rattle.std.specs.Prelude.{Bool, true, false, IsTrue, ◌↔◌, None, Some}
 use Rattle.pr_stamps.specs.Point.{Point}
 use Rattle.pr_names.specs.Name.{IsName}
 use Rattle.pr_names.specs.Span.{Span}
 use Rattle.pr_vectors.specs.Vector.{clock_of, Between, Covers, Le, join_of, cut_of, below_of, last_before}
 use Rattle.pr_vectors.proofs.Vectors.{clock_of-vector_of}
-use Rattle.pr_sets.specs.Spans.{has, IsSetOf}
+use Rattle.pr_names.proofs.Places.{span_some}
+use Rattle.pr_sets.specs.Spans.{has, IsSet, IsSetOf, Meet}
+use Rattle.pr_sets.proofs.Same.{holds_at, same_list}
+use Rattle.pr_inval.specs.Targets.{IsTargetFor}
 use Rattle.pr_inval.specs.declared.kind.Kind.{Kind}
 use Rattle.pr_inval.specs.declared.kind.Kind.TheVariants.{Precise, Imprecise, Checkpoint, Body}
 use Rattle.pr_inval.specs.declared.write_rec.WriteRec.{WriteRec}
 use Rattle.pr_log.specs.Log.{Logged, is_lit, IsDarkIn, IsOmittedIn}
 use Rattle.pr_log.specs.Known.{IsWaiting}
+use Rattle.pr_log.specs.Many.{HasMany}
 use Rattle.pr_log.specs.Waiting.{IsNextOf}
 use Rattle.pr_story.specs.declared.entry.Entry.{Entry}
 use Rattle.pr_story.specs.History.{current_vector}
@@ -22,7 +27,7 @@ use Rattle.pr_story.proofs.Points.{covered_node}
 use Rattle.pr_story.proofs.Targets.{target_met}
 use Rattle.pr_story.proofs.Withholding.{empty_of}
 use Rattle.pr_node.specs.declared.ahead.Withheld.{Withheld}
-use Rattle.pr_node.specs.Sending.{IsImpreciseOf}
+use Rattle.pr_node.specs.Sending.{IsImpreciseOf, IsOmittedSet}
 use Rattle.pr_node.specs.Ties.{IsLogOf}
 use Rattle.pr_node.proofs.Clocks.{below_or_not, cut_out}
 
@@ -75,11 +80,88 @@ dark_set n j m from to set f le s = set_mapped set (IsDarkIn m from to) (IsDarkB
   λ d. (d.0, d.1, not_true (is_lit m o d.0) (λ lit. d.2 ((f.lit o d.0 name (above n j m from f le d.0 (past from to d.0 d.1))).0 lit))),
 ))
 
-pub omitted_set : (n : ℕ) (j : List Entry) (m : Logged) (from to : List ℕ) (names set : List Span) → IsLogOf n j m → Le m.cut from → IsSetOf set (IsOmittedIn m from to names) → IsSetOf set (IsOmitted j names from to)
-omitted_set n j m from to names set f le s = set_mapped set (IsOmittedIn m from to names) (IsOmitted j names from to) s (λ o name. (
+-- what the log omits is what the journal omits
+omits : (n : ℕ) (j : List Entry) (m : Logged) (from to : List ℕ) (names : List Span) (o : List ℕ) → IsLogOf n j m → Le m.cut from → IsOmittedIn m from to names o ↔ IsOmitted j names from to o
+omits n j m from to names o f le = (
   λ d. (d.0, (d.1.0, (f.knows d.1.0 (above n j m from f le d.1.0.stamp (past from to d.1.0.stamp d.1.3))).0 d.1.1, d.1.2, d.1.3)),
   λ d. (d.0, (d.1.0, (f.knows d.1.0 (above n j m from f le d.1.0.stamp (past from to d.1.0.stamp d.1.3))).1 d.1.1, d.1.2, d.1.3)),
-))
+)
+
+pub omitted_set : (n : ℕ) (j : List Entry) (m : Logged) (from to : List ℕ) (names dark set : List Span) → IsLogOf n j m → Le m.cut from → IsOmittedSet dark set (IsOmittedIn m from to names) → IsOmittedSet dark set (IsOmitted j names from to)
+omitted_set n j m from to names dark set f le s = elim s [
+  | inl all ↦ inl (set_mapped set (IsOmittedIn m from to names) (IsOmitted j names from to) all (λ o name. omits n j m from to names o f le))
+  | inr some ↦ inr (
+    some.0,
+    record {
+      one_list = some.1.one_list;
+      no_others = λ o name h. (omits n j m from to names o f le).0 (some.1.no_others o name h);
+      many = some.1.many;
+      all_many = λ fine is. some.1.all_many fine (set_mapped fine (IsOmitted j names from to) (IsOmittedIn m from to names) is (λ o name. ((omits n j m from to names o f le).1, (omits n j m from to names o f le).0)));
+    },
+  )
+]
+
+-- none of them is one of the stream's
+pub omitted_apart : (m : Logged) (from to : List ℕ) (names dark set : List Span) → IsOmittedSet dark set (IsOmittedIn m from to names) → Meet (has set) (has names) → ⊥
+omitted_apart m from to names dark set s (o, name, here, there) = elim s [
+  | inl all ↦ false≢true (sym (all.no_others o name here).0 ∙ there)
+  | inr some ↦ false≢true (sym (some.1.no_others o name here).0 ∙ there)
+]
+
+-- ---- some of the omitted names
+
+omitted_only : (j : List Entry) (names : List Span) (v w : List ℕ) (dark omitted : List Span) (o : List ℕ) → IsName o → IsOmittedSet dark omitted (IsOmitted j names v w) → IsTrue (has omitted o) → IsOmitted j names v w o
+omitted_only j names v w dark omitted o name s h = elim s [ inl all ↦ all.no_others o name h | inr some ↦ some.1.no_others o name h ]
+
+-- where none is told, none is omitted
+omitted_none : (j : List Entry) (names : List Span) (v w : List ℕ) (dark omitted : List Span) (o : List ℕ) → IsName o → IsOmittedSet dark omitted (IsOmitted j names v w) → ((p : List ℕ) → IsName p → IsTrue (has omitted p) → ⊥) → IsOmitted j names v w o → ⊥
+omitted_none j names v w dark omitted o name s none is = elim s [
+  | inl all ↦ none o name (all.has_them o name is)
+  | inr some ↦ (let p = first_name omitted some.1.one_list (omega (arith, some.1.many)) in none p.0 p.1 p.2)
+]
+  where
+    first_name : (ss : List Span) → IsSet ss → 0 < length ss → (x : List ℕ) × IsName x × IsTrue (has ss x)
+    first_name [] one lt = absurd (omega arith)
+    first_name (s ∷ ss) one lt = (s.lo, one.0.lo, holds_at s ss s.lo one.0 one.0.lo (omega arith) (span_some s one.0))
+
+nothing : (ss : List Span) (A : Type 0) (o : List ℕ) → ss ≡ [] → IsTrue (has ss o) → A
+nothing ss A o none h = absurd (false≢true (sym (ap (λ (l : List Span). has l o) none) ∙ h))
+
+-- a target for some of many names is none of these alone
+some_met : (n : ℕ) (j : List Entry) (names : List Span) (v w : List ℕ) (dark omitted target : List Span) → dark ≡ [] → IsSetOf dark (IsDarkBetween n j v w) → HasMany 16 omitted (IsOmitted j names v w) → IsTargetFor omitted dark names target → IsTarget n j names v w target
+some_met n j names v w dark omitted target none d m is = elim is [
+  | inl few ↦ absurd (omega (
+    arith,
+    few.1,
+    m.many,
+    ap (λ (l : List Span). length l) (same_list target omitted few.0.one_list m.one_list (λ o name. same_test (has target o) (has omitted o)
+        (λ h. elim (few.0.no_others o name h) [ inl x ↦ nothing dark (IsTrue (has omitted o)) o none x | inr x ↦ x ])
+        (λ h. few.0.has_them o name (inr h)))),
+  ))
+  | inr many ↦ inr (
+    (λ fine f. m.all_many fine (record {
+      one_list = f.one_list;
+      has_them = λ o name t. f.has_them o name (inr t);
+      no_others = λ o name i. elim (f.no_others o name i) [ inl x ↦ nothing dark (IsOmitted j names v w o) o none (d.has_them o name x) | inr x ↦ x ];
+    })),
+    record {
+      one_list = many.1.one_list;
+      has_them = λ o name t. many.1.has_them o name (elim t [ inl x ↦ inl x | inr x ↦ inr (d.has_them o name x) ]);
+      no_others = λ o name i. elim (many.1.no_others o name i) [ inl x ↦ inl x | inr x ↦ inr (d.no_others o name x) ];
+    },
+  )
+]
+  where
+    same_test : (a b : Bool) → (a ≡ true → b ≡ true) → (b ≡ true → a ≡ true) → a ≡ b
+    same_test true b to from = sym (to refl)
+    same_test false true to from = from refl
+    same_test false false to from = refl
+
+is_met : (n : ℕ) (j : List Entry) (names : List Span) (v w : List ℕ) (dark omitted target : List Span) → IsSetOf dark (IsDarkBetween n j v w) → IsOmittedSet dark omitted (IsOmitted j names v w) → IsTargetFor omitted dark names target → IsTarget n j names v w target
+is_met n j names v w dark omitted target d s is = elim s [
+  | inl all ↦ target_met n j names v w dark omitted target d all is
+  | inr some ↦ some_met n j names v w dark omitted target some.0 d some.1 is
+]
 
 waits : (n : ℕ) (j : List Entry) (m : Logged) (pos : List ℕ) (names : List Span) (x : WriteRec) → IsLogOf n j m → Le m.cut pos → IsWaiting m.known pos names x ↔ IsWriteToSend j names pos x
 waits n j m pos names x f le = (
@@ -116,14 +198,14 @@ up_to pos v below before now t is b e = subst (λ (x : List ℕ). Le x (join_of 
 -- the names of which something is withheld by the journal
 pub record IsFoundBetween (n : ℕ) (j : List Entry) (names : List Span) (v w : List ℕ) (found : Withheld) : Type 0 where
   pub dark : IsSetOf found.dark (IsDarkBetween n j v w)
-  pub omitted : IsSetOf found.omitted (IsOmitted j names v w)
+  pub omitted : IsOmittedSet found.dark found.omitted (IsOmitted j names v w)
 
 -- there is no write to send
 pub sends_rest : (n : ℕ) (j : List Entry) (m : Logged) (names : List Span) (pos now to : List ℕ) (found : Withheld) (kind : Kind)
     → IsLogOf n j m → Le m.cut pos → IsNextOf m.known pos names None → now ≡ m.vector → to ≡ join_of pos now → IsFoundBetween n j names pos to found → IsImpreciseOf found names pos to kind → IsAhead n j names pos kind
 sends_rest n j m names pos now to found (Imprecise from end target) f le none is e s k = (
   k.0,
-  subst (λ (x : List ℕ). IsTarget n j names pos x target) (sym k.1) (target_met n j names pos to found.dark found.omitted target s.dark s.omitted k.2),
+  subst (λ (x : List ℕ). IsTarget n j names pos x target) (sym k.1) (is_met n j names pos to found.dark found.omitted target s.dark s.omitted k.2),
   inl (none_next n j m pos names f le none, k.1 ∙ e ∙ ap (λ (x : List ℕ). join_of pos x) (is ∙ f.vector)),
 )
 sends_rest n j m names pos now to found (Precise from end write) f le none is e s k = absurd k
@@ -136,12 +218,12 @@ pub sends_before : (n : ℕ) (j : List Entry) (m : Logged) (names : List Span) (
     → ((o : List ℕ) × IsName o × (IsTrue (has found.dark o) ⊎ IsTrue (has found.omitted o))) → IsImpreciseOf found names pos to kind → IsAhead n j names pos kind
 sends_before n j m names pos now below to t found (Imprecise from end target) f le next is b e s some k = (
   k.0,
-  subst (λ (x : List ℕ). IsTarget n j names pos x target) (sym k.1) (target_met n j names pos to found.dark found.omitted target s.dark s.omitted k.2),
+  subst (λ (x : List ℕ). IsTarget n j names pos x target) (sym k.1) (is_met n j names pos to found.dark found.omitted target s.dark s.omitted k.2),
   inr (
     t,
     next_is n j m pos names t f le next,
     k.1 ∙ e ∙ ap (λ (x : List ℕ). join_of pos x) (b ∙ ap (λ (x : List ℕ). below_of x t.stamp) (is ∙ f.vector)),
-    (some.0, some.1, subst (λ (x : List ℕ). IsWithheld n j names pos x some.0) (sym k.1) (elim some.2 [ inl x ↦ inl (s.dark.no_others some.0 some.1 x) | inr x ↦ inr (s.omitted.no_others some.0 some.1 x) ])),
+    (some.0, some.1, subst (λ (x : List ℕ). IsWithheld n j names pos x some.0) (sym k.1) (elim some.2 [ inl x ↦ inl (s.dark.no_others some.0 some.1 x) | inr x ↦ inr (omitted_only j names pos to found.dark found.omitted some.0 some.1 s.omitted x) ])),
   ),
 )
 sends_before n j m names pos now below to t found (Precise from end write) f le next is b e s some k = absurd k
@@ -158,8 +240,8 @@ sends_write n j m names pos now below before cut to t found kind f le next is b 
       refl,
       next_is n j m pos names t f le next,
       u ∙ ap (λ (x : List ℕ). join_of pos x) (c ∙ ap (λ (x : List ℕ). cut_of x t.stamp) v),
-      λ o name w. none o name (elim (subst (λ (x : List ℕ). IsWithheld n j names pos x o) (sym (e ∙ ap (λ (x : List ℕ). join_of pos x) (b ∙ ap (λ (x : List ℕ). below_of x t.stamp) v))) w) [
-        | inl d ↦ inl (s.dark.has_them o name d)
-        | inr d ↦ inr (s.omitted.has_them o name d)
-      ]),
+      λ o name w. elim (subst (λ (x : List ℕ). IsWithheld n j names pos x o) (sym (e ∙ ap (λ (x : List ℕ). join_of pos x) (b ∙ ap (λ (x : List ℕ). below_of x t.stamp) v))) w) [
+        | inl d ↦ none o name (inl (s.dark.has_them o name d))
+        | inr d ↦ omitted_none j names pos before found.dark found.omitted o name s.omitted (λ p hp h. none p hp (inr h)) d
+      ],
     )

@@ -1,6 +1,8 @@
 -- What the source of a stream sends next, by its stores: before any journal is named.
-use Rattle.std.specs.Prelude.{ℕ, List, ◌≡◌, ◌+◌, Option, None, Some}
+use Rattle.std.specs.Prelude.{ℕ, List, [], ◌≡◌, ◌⊎◌, ◌+◌, Option, None, Some}
 use Rattle.pr_names.specs.Span.{Span}
+use Rattle.pr_sets.specs.Spans.{IsSetOf}
+use Rattle.pr_log.specs.Many.{HasMany}
 use Rattle.pr_inval.specs.declared.kind.Kind.{Kind}
 use Rattle.pr_inval.specs.declared.kind.Kind.TheVariants.{Imprecise, Body}
 use Rattle.pr_inval.specs.declared.step.Step.{Step}
@@ -13,6 +15,11 @@ use Rattle.pr_story.specs.Ranges.{IsKind, IsMsg}
 use Rattle.pr_story.specs.Sending.{HasBody}
 use Rattle.pr_story.specs.Turns.{IsNextBody, IsTurn, StaleTurn, IdleTurn, SendTurn}
 use Rattle.pr_node.specs.declared.ahead.Withheld.{Withheld}
+
+-- the set's names are those that meet the condition; or nothing is dark, and more than 16 intervals hold these names, as
+-- more hold the set's, which are some of them
+abbrev pub IsOmittedSet : List Span → List Span → (List ℕ → Type 0) → Type 0
+IsOmittedSet dark set test = IsSetOf set test ⊎ ((dark ≡ []) × HasMany 16 set test)
 
 -- an imprecise message between the vectors, whose target is made of what is withheld
 abbrev pub IsImpreciseOf : Withheld → List Span → List ℕ → List ℕ → Kind → Type 0

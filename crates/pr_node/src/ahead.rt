@@ -2,8 +2,9 @@
 ghost use Rattle.pr_inval.specs.Standing.{means};
 ghost use Rattle.pr_inval.specs.Targets.{IsTargetFor};
 ghost use Rattle.pr_inval.specs.declared.kind.Kind.TheVariants.{Precise};
+ghost use Rattle.pr_log.specs.Log.{IsOmittedIn};
 ghost use Rattle.pr_names.specs.Name.{IsName};
-ghost use Rattle.pr_node.specs.Sending.{IsImpreciseOf, IsSentOf, IsStepInRange};
+ghost use Rattle.pr_node.specs.Sending.{IsImpreciseOf, IsOmittedSet, IsSentOf, IsStepInRange};
 ghost use Rattle.pr_node.specs.Ties.{IsLogOf};
 ghost use Rattle.pr_sets.specs.Spans.{IsSetOf, Meet, has};
 ghost use Rattle.pr_story.specs.Sending.{IsAhead};
@@ -14,7 +15,7 @@ ghost use Rattle.pr_vectors.specs.Vector.{Le, join_of};
 ghost use Rattle.std.specs.Prelude.{◌≡◌, ◌⊎◌, ◌↔◌, ℕ, List, IfOk, IsOk, IsTrue, false};
 
 use crate::ranges::write_in_range;
-use pr_inval::{Kind, Msg, Session, Step, WriteRec, target_for};
+use pr_inval::{Kind, Msg, Session, Step, TARGET_INTERVALS, WriteRec, target_for};
 use pr_log::Log;
 use pr_names::Name;
 use pr_sets::NameSet;
@@ -22,7 +23,8 @@ use pr_stamps::{NoMemory, Stamp};
 use pr_vectors::{PackedVector, Vector};
 use std::alloc::Global;
 
-// The names of which something is withheld between two vectors.
+// The names of which something is withheld between two vectors. Where nothing is dark, and the omitted names have more
+// intervals than a target that names them may have, just some of them with more are here.
 #[derive(Drop)]
 pub struct Withheld {
     pub dark: NameSet,
@@ -70,7 +72,7 @@ fn found_between(
     requires cut { Le log.now.cut from.now }
     requires to { Le to.now (join_of from.now log.now.vector) }
     ensures dark { IfOk result (λ w. (n : ℕ) (j : List Entry) → IsLogOf n j log.now → IsSetOf w.dark (IsDarkBetween n j from.now to.now)) }
-    ensures omitted { IfOk result (λ w. (n : ℕ) (j : List Entry) → IsLogOf n j log.now → IsSetOf w.omitted (IsOmitted j names.now from.now to.now)) }
+    ensures omitted { IfOk result (λ w. (n : ℕ) (j : List Entry) → IsLogOf n j log.now → IsOmittedSet w.dark w.omitted (IsOmitted j names.now from.now to.now)) }
     ensures apart { IfOk result (λ w. ¬ Meet (has w.omitted) (has names.now)) }
 {
     if to.le(from) {
@@ -81,8 +83,26 @@ fn found_between(
         });
     }
     let dark = log.dark_between(from, to)?;
-    let omitted = log.omitted_between(from, to, names)?;
+    let omitted = omitted_beside(&dark, log, names, from, to)?;
     Ok(Withheld { dark, omitted })
+}
+
+// The omitted names, or some of them: where nothing is dark, so many that a target cannot name them are not asked for.
+fn omitted_beside(
+    dark: &NameSet,
+    log: &Log,
+    names: &NameSet,
+    from: &Vector,
+    to: &Vector,
+) -> Result<NameSet, NoMemory>
+    requires cut { Le log.now.cut from.now }
+    requires to { Le to.now (join_of from.now log.now.vector) }
+    ensures omitted { IfOk result (λ set. IsOmittedSet dark.now set (IsOmittedIn log.now from.now to.now names.now)) }
+{
+    if dark.is_empty() {
+        return log.omitted_within(from, to, names, TARGET_INTERVALS);
+    }
+    log.omitted_between(from, to, names)
 }
 
 // Whether nothing is withheld.

@@ -1,8 +1,7 @@
-use Rattle.std.proofs.Common.{◌≡◌, arith, [], nat_eq, refl, subst}
-use Rattle.std.specs.Prelude.{◌↔◌, IsTrue}
+use Rattle.std.proofs.Common.{◌≡◌, arith, [], nat_eq, refl}
 use Rattle.pr_log.specs.Sets.{is_gathered}
 use Rattle.pr_log.proofs.Places.{at_place}
-use Rattle.pr_log.proofs.Lit.{IsDarkBelow, below_more, set_of_dark}
+use Rattle.pr_log.proofs.Lit.{below_more, dark_behind, set_of_dark}
 use Rattle.pr_log.proofs.dark.Dark.between.Goals as goal
 
 pub loop-n-preserved : goal.loop-n-preserved
@@ -13,4 +12,6 @@ loop-n-preserved c o name =
 
 pub returns : goal.returns
 returns c = rw (← c.self.view_is) (set_of_dark c.union.result c.args.own c.self.inside.rows.items c.args.from.now c.args.to.now (is_gathered c.loop-n.names) c.at.ensures.range.nodes c.union.ensures.set c.union.ensures.names
-    (λ o name. let end : c.loop-n.n ≡ 32 = omega arith in subst (λ n. IsTrue (is_gathered c.loop-n.names o) ↔ IsDarkBelow c.args.own c.self.inside.rows.items c.args.from.now c.args.to.now n o) end (c.loop-n.invariant o name)))
+    (λ o name. dark_behind c.args.own c.self.inside.rows.items c.args.from.now c.args.to.now c.loop-n.n o (is_gathered c.loop-n.names o) (omega (arith, c.nodes-n-end.ensures.most))
+    (λ k past. c.nodes-n-end.ensures.behind k (omega (arith, past)))
+    (c.loop-n.invariant o name)))
