@@ -14,8 +14,8 @@ use pr_wires::Wire;
 use std::alloc::Global;
 
 // How many bytes are put into a wire before they are taken again: nearly every invalidation has no more, and a wire holds
-// four times as many. The room for them is cleared for each message.
-const PIECE: usize = 1024;
+// eight times as many. The room for them is cleared for each message.
+const PIECE: usize = 512;
 
 /// A message was taken again and decoded; the wire failed or ended; or other bytes were taken.
 #[derive(Drop)]

@@ -178,8 +178,9 @@ impl Log {
         uncounted::<Brand>(&self.known, pos, sub, Blank::new(1))
     }
 
-    /// The write that `next_write` gives, with each look at the index as one step: one for each node, and one for each
-    /// write to other names that comes before the answer. A step takes time logarithmic in the node's known writes.
+    /// The write that `next_write` gives, with each look at the index as one step: one for each node up to the last that
+    /// wrote, and one for each write to other names that comes before the answer. A step takes time logarithmic in the
+    /// node's known writes.
     pub fn next_write_counted<L: Ledger>(
         &self,
         pos: &Vector,
