@@ -71,12 +71,12 @@ impl Gaps {
         self.rows.len()
     }
 
-    pub fn vector(&self) -> Vector
-        ensures value { result ≡ self.now.vector }
-        ensures range { IsVector result }
+    pub fn vector(&self) -> &Vector
+        ensures value { result.now ≡ self.now.vector }
+        ensures range { IsVector result.now }
     {
         let _ = self.vector.at(0);
-        self.vector
+        &self.vector
     }
 
     /// The set of this number; the last is the rest.
@@ -125,7 +125,7 @@ impl Gaps {
             to,
             target,
         )?;
-        self.vector = self.vector.join(to);
+        self.vector.join_in(to);
         self.spent = false;
         Ok(())
     }

@@ -34,7 +34,7 @@ fn tell(alloc: Global, gaps: &mut Gaps, clock: u64, target: &[u8]) -> Result<(),
     let target = set(alloc, target)?;
     let from = Vector::zero();
     let to = up_to(clock, A);
-    if !from.le(&to) || !from.le(&gaps.vector()) {
+    if !from.le(&to) || !from.le(gaps.vector()) {
         return Err(Fail::from("a span"));
     }
     Ok(gaps.cover(&from, &to, &target).ok().ok_or("no memory")?)
@@ -44,7 +44,7 @@ fn tell(alloc: Global, gaps: &mut Gaps, clock: u64, target: &[u8]) -> Result<(),
 fn a_message_is_untold_where_its_target_meets(rt: HostRuntime) -> Result<(), Fail> {
     let mut gaps = gaps(rt.alloc())?;
     tell(rt.alloc(), &mut gaps, 2, b"a")?;
-    assert!(rt; gaps.sets() == 2 && gaps.vector() == up_to(2, A));
+    assert!(rt; gaps.sets() == 2 && *gaps.vector() == up_to(2, A));
     assert!(rt; gaps.first_untold(0) == Stamp::new(1, A));
     assert!(rt; gaps.last_precise(0) == Vector::zero());
     assert!(rt; gaps.first_untold(1) == None);
@@ -67,7 +67,7 @@ fn own_points_are_told(rt: HostRuntime) -> Result<(), Fail> {
     let mut gaps = gaps(rt.alloc())?;
     gaps.own(7);
     gaps.own(5);
-    assert!(rt; gaps.sets() == 2 && gaps.vector() == up_to(7, B));
+    assert!(rt; gaps.sets() == 2 && *gaps.vector() == up_to(7, B));
     assert!(rt; gaps.first_untold(0) == None && gaps.first_untold(1) == None);
     assert!(rt; gaps.last_precise(0) == up_to(7, B));
     Ok(())

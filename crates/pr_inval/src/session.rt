@@ -80,12 +80,12 @@ impl Session {
     }
 
     /// The points that it has told, or that its start counted.
-    pub fn pos(&self) -> Vector
-        ensures value { result ≡ (means self.now).standing.position }
-        ensures range { IsVector result }
+    pub fn pos(&self) -> &Vector
+        ensures value { result.now ≡ (means self.now).standing.position }
+        ensures range { IsVector result.now }
     {
         let _ = self.pos.at(0);
-        self.pos
+        &self.pos
     }
 
     /// The number of its last message, 0 before the first.
@@ -158,7 +158,7 @@ impl Session {
         ensures { HasSent (means self.old) (means self.new) to.now time }
     {
         self.number += 1;
-        self.pos = self.pos.join(to);
+        self.pos.join_in(to);
         self.time = time;
     }
 

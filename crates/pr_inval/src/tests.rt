@@ -273,7 +273,7 @@ fn is_new(session: &Session) -> bool {
     !session.is_attached()
         && session.bodies()
         && session.stream() == 3
-        && session.pos() == Vector::zero()
+        && *session.pos() == Vector::zero()
         && session.sub().count() == 1
 }
 
@@ -307,7 +307,7 @@ fn sessions_remember_bodies(rt: HostRuntime) {
 
 // Whether the session is at this vector, with one message, at time 5.
 fn stands(session: &Session, pos: &Vector) -> bool {
-    session.pos() == *pos && session.number() == 1 && session.time() == 5
+    *session.pos() == *pos && session.number() == 1 && session.time() == 5
 }
 
 // Attaches the session twice; a message is sent in between.

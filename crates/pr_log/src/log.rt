@@ -109,7 +109,7 @@ impl Log {
         self.spent = true;
         self.dark.refine(self.node, from, to, target)?;
         learn(&mut self.known, &self.cut, write)?;
-        self.vector = self.vector.join(to);
+        self.vector.join_in(to);
         self.spent = false;
         Ok(())
     }
@@ -126,7 +126,7 @@ impl Log {
         if self.spent {
             return Err(NoMemory);
         }
-        self.vector = self.vector.join(to);
+        self.vector.join_in(to);
         Ok(())
     }
 
@@ -137,28 +137,27 @@ impl Log {
         ensures cut { IsCut self.old self.new }
         ensures spent { self.new.spent ≡ self.old.spent }
     {
-        let cut = self.cut.join(&self.vector);
-        self.dark.forget(self.node, &cut);
-        self.known.forget(&cut);
-        self.cut = cut;
+        self.cut.join_in(&self.vector);
+        self.dark.forget(self.node, &self.cut);
+        self.known.forget(&self.cut);
     }
 
     /// The points of which the node was told, in constant time.
-    pub fn vector(&self) -> Vector
-        ensures value { result ≡ self.now.vector }
-        ensures range { IsVector result }
+    pub fn vector(&self) -> &Vector
+        ensures value { result.now ≡ self.now.vector }
+        ensures range { IsVector result.now }
     {
         let _ = self.vector.at(0);
-        self.vector
+        &self.vector
     }
 
     /// Up to where the log is cut off, in constant time.
-    pub fn cut_at(&self) -> Vector
-        ensures value { result ≡ self.now.cut }
-        ensures range { IsVector result }
+    pub fn cut_at(&self) -> &Vector
+        ensures value { result.now ≡ self.now.cut }
+        ensures range { IsVector result.now }
     {
         let _ = self.cut.at(0);
-        self.cut
+        &self.cut
     }
 
     /// Whether a call was refused memory.

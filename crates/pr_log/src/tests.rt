@@ -59,7 +59,7 @@ fn tell(
     target: &[u8],
 ) -> Result<(), Fail> {
     let target = set(alloc, target)?;
-    if !from.le(to) || !from.le(&log.vector()) {
+    if !from.le(to) || !from.le(log.vector()) {
         return Err(Fail::from("a span"));
     }
     Ok(log.refine(from, to, &target, None).ok().ok_or("no memory")?)
@@ -73,7 +73,7 @@ fn tell_write(alloc: Global, log: &mut Log, name: &[u8], clock: u64) -> Result<(
     let none = NameSet::empty(alloc);
     let from = log.vector().below(&write.stamp);
     let to = from.join(&up_to(write.stamp.clock(), write.stamp.node()));
-    if !from.le(&to) || !from.le(&log.vector()) {
+    if !from.le(&to) || !from.le(log.vector()) {
         return Err(Fail::from("a span"));
     }
     match log.refine(&from, &to, &none, Some(&write)) {
@@ -100,7 +100,7 @@ fn log_with_own(alloc: Global, name: &[u8], clock: u64) -> Result<Log, Fail> {
 
 // The text of the names that are dark between the vectors.
 fn dark(alloc: Global, log: &Log, from: &Vector, to: &Vector) -> Result<Seq<u8>, Fail> {
-    if !log.cut_at().le(from) || !to.le(&from.join(&log.vector())) {
+    if !log.cut_at().le(from) || !to.le(&from.join(log.vector())) {
         return Err(Fail::from("vectors"));
     }
     let names = log.dark_between(from, to).ok().ok_or("no memory")?;
@@ -113,13 +113,10 @@ fn dark(alloc: Global, log: &Log, from: &Vector, to: &Vector) -> Result<Seq<u8>,
 fn omitted(alloc: Global, log: &Log, sub: &[u8]) -> Result<Seq<u8>, Fail> {
     let sub = set(alloc, sub)?;
     let (from, to) = (log.cut_at(), log.vector());
-    if !log.cut_at().le(&from) || !to.le(&from.join(&log.vector())) {
+    if !log.cut_at().le(from) || !to.le(&from.join(log.vector())) {
         return Err(Fail::from("vectors"));
     }
-    let names = log
-        .omitted_between(&from, &to, &sub)
-        .ok()
-        .ok_or("no memory")?;
+    let names = log.omitted_between(from, to, &sub).ok().ok_or("no memory")?;
     let mut text = Seq::new(alloc);
     names.print(&mut text).ok().ok_or("no memory")?;
     Ok(text)
@@ -156,7 +153,7 @@ fn new_points_are_dark_but_own_ones_are_lit(rt: HostRuntime) -> Result<(), Fail>
         (others.as_slice(), own.as_slice()),
         (b"*".as_slice(), b"~".as_slice())
     );
-    assert!(rt; log.vector() == up_to(6, A).join(&up_to(3, B)) && !log.is_spent());
+    assert!(rt; *log.vector() == up_to(6, A).join(&up_to(3, B)) && !log.is_spent());
     Ok(())
 }
 
@@ -208,7 +205,7 @@ fn a_cut_log_forgets_its_writes(rt: HostRuntime) -> Result<(), Fail> {
     let mut log = log(rt.alloc())?;
     tell_write(rt.alloc(), &mut log, b"a", 5)?;
     log.cut();
-    assert!(rt; log.cut_at() == log.vector() && log.cut_at().at(A) == 5);
+    assert!(rt; *log.cut_at() == *log.vector() && log.cut_at().at(A) == 5);
     assert!(rt; next(rt.alloc(), &log, &Vector::zero(), b"a")? == None);
     tell_write(rt.alloc(), &mut log, b"a", 7)?;
     assert!(rt; next(rt.alloc(), &log, &up_to(5, A), b"a")? == Stamp::new(7, A));

@@ -48,15 +48,17 @@ pub fn ahead(
 {
     let vector = log.vector();
     let Some(write) = log.next_write(position, names) else {
-        let to = position.join(&vector);
+        let mut to = *position;
+        to.join_in(vector);
         let found = found_between(alloc, log, names, position, &to)?;
         return imprecise(alloc, &found, names, position, &to, session, time);
     };
-    let before = position.join(&vector.below(&write.stamp));
+    let mut before = *position;
+    before.join_below(vector, &write.stamp);
     let found = found_between(alloc, log, names, position, &before)?;
     if is_nothing(&found) {
-        let to = before.raised_within(&write.stamp, &vector);
-        return precise(alloc, position, &to, &write, session, time);
+        before.raise_within(&write.stamp, vector);
+        return precise(alloc, position, &before, &write, session, time);
     }
     imprecise(alloc, &found, names, position, &before, session, time)
 }

@@ -112,7 +112,7 @@ impl Node {
         ensures value { self.now.spent ≡ false → result ≡ current_vector (means self.now).journal }
         ensures range { IsVector result }
     {
-        self.stores.log.vector()
+        *self.stores.log.vector()
     }
 
     /// What the node has done.
@@ -180,7 +180,7 @@ impl Node {
         ensures spent { self.old.spent ≡ true → result ≡ Err faults.NoMemory }
     {
         let time = self.diary.begin(0)?;
-        let after = self.stores.log.vector();
+        let after = *self.stores.log.vector();
         let _ = needs.at(0);
         bytes_in_range(body);
         if !needs.le(&after) {
@@ -211,13 +211,17 @@ impl Node {
         msg_in_range(&msg);
         let time = self.diary.begin(msg.time)?;
         let has = self.stores.log.vector();
-        if let Some(needs) = gap(&msg.kind, &has) {
-            self.diary.gapped(time, caller, msg, &has)?;
-            return Ok(Taken::Gap { needs, has, time });
+        if let Some(needs) = gap(&msg.kind, has) {
+            self.diary.gapped(time, caller, msg, has)?;
+            return Ok(Taken::Gap {
+                needs,
+                has: *has,
+                time,
+            });
         }
         take(self.alloc, &mut self.stores, &msg.kind)?;
         let at = self.stores.log.vector();
-        self.diary.accepted(time, caller, msg, &at)?;
+        self.diary.accepted(time, caller, msg, at)?;
         Ok(Taken::Accepted { time })
     }
 
@@ -230,7 +234,7 @@ impl Node {
         ensures spent { self.old.spent ≡ true → result ≡ Err faults.NoMemory }
     {
         let time = self.diary.begin(0)?;
-        let at = self.stores.log.vector();
+        let at = *self.stores.log.vector();
         cut(&mut self.stores);
         self.diary.cut(time, caller, &at)?;
         Ok(at)
@@ -288,12 +292,12 @@ impl Node {
         let at = self.stores.log.vector();
         let _ = needs.at(0);
         let _ = name.bytes();
-        if !needs.le(&at) {
-            self.diary.behind(time, caller, client, needs, &at)?;
-            return Ok(Seen::Behind { has: at });
+        if !needs.le(at) {
+            self.diary.behind(time, caller, client, needs, at)?;
+            return Ok(Seen::Behind { has: *at });
         }
         let (answered, kept) = replies(self.alloc, &answer(&self.stores, name))?;
-        self.diary.answered(time, caller, client, name, kept, &at)?;
+        self.diary.answered(time, caller, client, name, kept, at)?;
         Ok(Seen::Reply(answered))
     }
 
@@ -322,8 +326,8 @@ impl Node {
     {
         let time = self.diary.begin(0)?;
         let precise = precise(self.alloc, &self.stores.gaps)?;
-        let at = self.stores.log.vector();
-        let cut = self.stores.log.cut_at();
+        let at = *self.stores.log.vector();
+        let cut = *self.stores.log.cut_at();
         let floor = self.stores.marks.floor();
         self.diary.state(time, caller, &at, &cut, &floor, precise)?;
         Ok(())
@@ -390,7 +394,7 @@ impl Node {
         let kind = snapshot(self.alloc, &self.stores, session.sub())?;
         let msg = message(session, kind, time);
         let sent = msg.copy(self.alloc)?;
-        session.sent(&self.stores.gaps.vector(), time);
+        session.sent(self.stores.gaps.vector(), time);
         self.diary.sent(time, caller, sent);
         Ok(msg)
     }

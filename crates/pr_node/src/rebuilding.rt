@@ -81,9 +81,8 @@ pub fn cut(stores: &mut Stores)
     ensures tied { (n : ℕ) (j : List Entry) (time caller : ℕ) (at : List ℕ) → IsTied n j stores.old → at ≡ current_vector j → IsTied n (record { time = time; caller = caller; event = Cut at } ∷ j) stores.new }
     ensures sets { stores.new.gaps.sets ≡ stores.old.gaps.sets }
 {
-    let at = stores.log.vector();
     stores.log.cut();
-    stores.marks.forget(&at);
+    stores.marks.forget(stores.log.vector());
 }
 
 // The bodies of the name are dropped.

@@ -22,7 +22,7 @@ pub fn start(gaps: &Gaps, names: &NameSet) -> Vector
     ensures start { (n : ℕ) (j : List Entry) → IsGapsOf n j gaps.now → IsStart gaps.now.sets n j names.now result }
     ensures range { IsVector result }
 {
-    let mut start = gaps.vector();
+    let mut start = *gaps.vector();
     for index in 0..gaps.sets() {
         if gaps.set(index).meets(names) {
             start = start.meet(&gaps.last_precise(index));

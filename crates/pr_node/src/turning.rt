@@ -34,11 +34,11 @@ pub fn next_step(
 {
     let cut = stores.log.cut_at();
     let position = session.pos();
-    if !cut.le(&position) {
-        return Ok(Step::Stale { cut });
+    if !cut.le(position) {
+        return Ok(Step::Stale { cut: *cut });
     }
-    if !stores.log.vector().le(&position) {
-        return ahead(alloc, &stores.log, session.sub(), &position, session, time);
+    if !stores.log.vector().le(position) {
+        return ahead(alloc, &stores.log, session.sub(), position, session, time);
     }
     if session.bodies() {
         return send_body(alloc, stores, entries, session, scan, time);

@@ -23,7 +23,7 @@ use std::alloc::Global;
 pub fn build(alloc: Global, gaps: &Gaps, marks: &Marks, sub: &NameSet) -> Result<Kind, NoMemory>
     ensures { IfOk result (IsBuilt gaps.now marks.now sub.now) }
 {
-    let to = PackedVector::of(alloc, &gaps.vector())?;
+    let to = PackedVector::of(alloc, gaps.vector())?;
     let floor = PackedVector::of(alloc, &marks.floor())?;
     let target = target(alloc, gaps, sub)?;
     let rows = rows(alloc, marks, &target)?;

@@ -1,12 +1,15 @@
 -- How many clocks there are up to the last that is not 0.
 use Rattle.std.proofs.Common.{◌≡◌, ◌≤◌, ◌<◌, ◌+◌, ◌∙◌, ℕ, zero, suc, Bool, true, false, List, [], ◌∷◌, length, get_or, set, subst, refl, sym, ap, inl, inr, nat_eq, arith}
 use Rattle.std.proofs.lemmas.Bool.Decides.{nat_tests}
-use Rattle.std.specs.Prelude.{◌⊎◌, cond, max}
+use Rattle.std.specs.Prelude.{◌⊎◌, cond, max, min}
 use Rattle.std.proofs.lemmas.Grind.{get_or-set_at}
 use Rattle.std.proofs.lemmas.Bool.{cases_lt}
 use Rattle.std.proofs.lemmas.List.{get_or_past, get_or-set_other}
 use Rattle.pr_vectors.specs.Counted.{HasCount, counted, counted_with}
-use Rattle.pr_vectors.specs.Vector.{IsVector}
+use Rattle.pr_stamps.specs.Point.{Point}
+use Rattle.pr_stamps.proofs.Places.{below_or}
+use Rattle.pr_vectors.specs.Vector.{IsVector, below_of, clock_of, join_of, last_before}
+use Rattle.pr_vectors.proofs.Vectors.{clock_of-vector_of, is_in_range, length-vector_of}
 
 -- so many they are
 pub record IsCounted (v : List ℕ) (n : ℕ) : Type 0 where
@@ -120,3 +123,58 @@ raised_count v n i c h lt is some = has_count (set v i c) (max n (i + 1)) is (om
     by : (m : ℕ) → max n (i + 1) ≡ suc m → get_or (set v i c) m 0 ≡ 0 → (i < m) ⊎ (m ≤ i) → ⊥
     by m e z (inl less) = last_counts v n h m (omega (arith, e, less)) (sym (get_or-set_other v i m c 0 (λ q. absurd (omega (arith, q, less)))) ∙ z)
     by m e z (inr most) = here m (omega (arith, e, most)) z
+
+-- clocks that are joined in up to a place, where none behind it counts, are joined in
+pub joined_in : (cs old : List ℕ) (n : ℕ) (g : ℕ → ℕ) → ((k : ℕ) → k < n → get_or cs k 0 ≡ max (get_or old k 0) (g k)) → ((k : ℕ) → n ≤ k → get_or cs k 0 ≡ get_or old k 0) → ((k : ℕ) → n ≤ k → k < 32 → g k ≡ 0) → (k : ℕ) → k < 32 → get_or cs k 0 ≡ max (get_or old k 0) (g k)
+joined_in cs old n g done rest zeros k lt = by (cases_lt k n)
+  where
+    by : (k < n) ⊎ (n ≤ k) → get_or cs k 0 ≡ max (get_or old k 0) (g k)
+    by (inl here) = done k here
+    by (inr past) =
+        let same : get_or cs k 0 ≡ get_or old k 0 = rest k past in
+        let none : g k ≡ 0 = zeros k past lt in
+        omega (arith, same, none)
+
+-- one clock more is joined in
+pub joins_more : (cs old : List ℕ) (n c : ℕ) (g : ℕ → ℕ) → n < length cs → c ≡ max (get_or cs n 0) (g n) → ((k : ℕ) → k < n → get_or cs k 0 ≡ max (get_or old k 0) (g k)) → ((k : ℕ) → n ≤ k → get_or cs k 0 ≡ get_or old k 0) → (k : ℕ) → k < n + 1 → get_or (set cs n c) k 0 ≡ max (get_or old k 0) (g k)
+joins_more cs old n c g within is done rest k lt = by (below_or k n lt)
+  where
+    here : get_or (set cs n c) n 0 ≡ max (get_or old n 0) (g n)
+    here = get_or-set_at cs n n c 0 refl within ∙ is ∙ ap (λ x. max x (g n)) (rest n (omega arith))
+
+    by : (k < n) ⊎ (k ≡ n) → get_or (set cs n c) k 0 ≡ max (get_or old k 0) (g k)
+    by (inl less) = get_or-set_other cs n k c 0 (λ e. absurd (omega (arith, e, less))) ∙ done k less
+    by (inr same) = subst (λ i. get_or (set cs n c) i 0 ≡ max (get_or old i 0) (g i)) (sym same) here
+
+-- a join counts as far as the vector that counts further
+pub join_counts : (v w : List ℕ) (a b : ℕ) → HasCount v a → HasCount w b → HasCount (join_of v w) (max a b)
+join_counts v w a b hv hw = joined_count v w (join_of v w) a b hv hw is each behind
+  where
+    each : (k : ℕ) → k < 32 → get_or (join_of v w) k 0 ≡ max (get_or v k 0) (get_or w k 0)
+    each k h = clock_of-vector_of _ k h
+
+    is : IsVector (join_of v w)
+    is = is_in_range (λ k. max (get_or v k 0) (get_or w k 0)) (join_of v w) (length-vector_of _) each (λ k h. omega (arith, hv.vector.most k h, hw.vector.most k h))
+
+    behind : (k : ℕ) → max a b ≤ k → k < 32 → get_or (join_of v w) k 0 ≡ 0
+    behind k le h =
+        let at : get_or (join_of v w) k 0 ≡ max (get_or v k 0) (get_or w k 0) = each k h in
+        let one : get_or v k 0 ≡ 0 = hv.behind k (omega (arith, le)) h in
+        let other : get_or w k 0 ≡ 0 = hw.behind k (omega (arith, le)) h in
+        omega (arith, at, one, other)
+
+-- what is joined in below a stamp is in range, and does not count further
+below_at : (v w : List ℕ) (p : Point) (k : ℕ) → k < 32 → get_or (join_of v (below_of w p)) k 0 ≡ max (get_or v k 0) (min (get_or w k 0) (last_before p k))
+below_at v w p k h =
+    let below : clock_of (below_of w p) k ≡ min (get_or w k 0) (last_before p k) = clock_of-vector_of _ k h in
+    clock_of-vector_of (λ n. max (get_or v n 0) (clock_of (below_of w p) n)) k h ∙ ap (λ x. max (get_or v k 0) x) below
+
+pub below_is : (v w : List ℕ) (p : Point) → IsVector v → IsVector w → IsVector (join_of v (below_of w p))
+below_is v w p hv hw = is_in_range (λ k. max (get_or v k 0) (min (get_or w k 0) (last_before p k))) _ (length-vector_of _) (below_at v w p) (λ k h. omega (arith, hv.most k h, hw.most k h))
+
+pub below_behind : (v w : List ℕ) (a b : ℕ) (p : Point) → HasCount v a → HasCount w b → (k : ℕ) → max a b ≤ k → k < 32 → get_or (join_of v (below_of w p)) k 0 ≡ 0
+below_behind v w a b p hv hw k le h =
+    let at : get_or (join_of v (below_of w p)) k 0 ≡ max (get_or v k 0) (min (get_or w k 0) (last_before p k)) = below_at v w p k h in
+    let one : get_or v k 0 ≡ 0 = hv.behind k (omega (arith, le)) h in
+    let other : get_or w k 0 ≡ 0 = hw.behind k (omega (arith, le)) h in
+    omega (arith, at, one, other)

@@ -12,6 +12,12 @@ fn vector(clocks: &[(u64, u32)]) -> Option<Vector> {
     Some(vector)
 }
 
+fn raised_within(vector: &Vector, stamp: &Stamp, other: &Vector) -> Vector {
+    let mut raised = *vector;
+    raised.raise_within(stamp, other);
+    raised
+}
+
 #[test]
 fn cuts_and_joins(rt: HostRuntime) -> Result<(), Fail> {
     let both = vector(&[(3, 0), (3, 1)]).ok_or("stamps")?;
@@ -20,11 +26,11 @@ fn cuts_and_joins(rt: HostRuntime) -> Result<(), Fail> {
     assert_eq!(rt; Some(both.stamp_cut(&stamp)), vector(&[(2, 0), (1, 1)]));
     assert_eq!(rt; Some(both.below(&stamp)), vector(&[(1, 0), (1, 1)]));
     assert_eq!(rt;
-        both.below(&stamp).raised_within(&stamp, &both),
+        raised_within(&both.below(&stamp), &stamp, &both),
         both.stamp_cut(&stamp)
     );
     assert_eq!(rt;
-        Some(Vector::zero().raised_within(&last_of_one, &both)),
+        Some(raised_within(&Vector::zero(), &last_of_one, &both)),
         vector(&[(3, 1)])
     );
     let left = vector(&[(5, 0), (1, 31)]).ok_or("stamps")?;
@@ -38,6 +44,26 @@ fn cuts_and_joins(rt: HostRuntime) -> Result<(), Fail> {
         (3, MAX, MAX, 0)
     );
     vectors_cover_points();
+    Ok(())
+}
+
+// Whether what is joined in place is what is joined.
+fn is_joined_in(vector: &Vector, other: &Vector, stamp: &Stamp) -> bool {
+    let mut whole = *vector;
+    whole.join_in(other);
+    let mut below = *vector;
+    below.join_below(other, stamp);
+    whole == vector.join(other) && below == vector.join(&other.below(stamp))
+}
+
+#[test]
+fn what_is_joined_in_place_is_the_join(rt: HostRuntime) -> Result<(), Fail> {
+    let middle = vector(&[(3, 0), (2, 5)]).ok_or("stamps")?;
+    let last = vector(&[(1, 0), (5, 31)]).ok_or("stamps")?;
+    let stamp = Stamp::new(2, 5).ok_or("a stamp")?;
+    assert!(rt; is_joined_in(&middle, &last, &stamp));
+    assert!(rt; is_joined_in(&last, &middle, &stamp));
+    assert!(rt; is_joined_in(&Vector::zero(), &middle, &stamp));
     Ok(())
 }
 

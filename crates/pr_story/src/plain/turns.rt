@@ -213,11 +213,11 @@ pub fn turn(
 {
     let position = session.pos();
     let cut = cuts_of(entries);
-    if !cut.le(&position) {
+    if !cut.le(position) {
         return Ok(Next::Stale(cut));
     }
-    if !current_vector(entries).le(&position) {
-        let kind = ahead(alloc, node, entries, session.sub(), &position)?;
+    if !current_vector(entries).le(position) {
+        let kind = ahead(alloc, node, entries, session.sub(), position)?;
         return Ok(Next::Send(kind));
     }
     if session.bodies() {

@@ -11,10 +11,10 @@ use Rattle.pr_node.proofs.turning.next_step.Goals as goal
 
 pub returns-then-not-le-2-clause-next : goal.returns-then-not-le-2-clause-next
 returns-then-not-le-2-clause-next c =
-    let A : Step → Type 0 = λ s. (n : ℕ) (j : List Entry) → IsLogOf n j c.args.stores.now.log → IsSentOf (IsAhead n j c.sub.result.now c.pos-position.result) (means c.args.session.now) c.args.time s in
+    let A : Step → Type 0 = λ s. (n : ℕ) (j : List Entry) → IsLogOf n j c.args.stores.now.log → IsSentOf (IsAhead n j c.sub.result.now c.pos-position.result.now) (means c.args.session.now) c.args.time s in
     let N : Step → Type 0 = λ s. (n : ℕ) → IsTied n (reverse c.args.entries.now) c.args.stores.now → IsNextStep n (reverse c.args.entries.now) (means c.args.session.now) c.args.time s in
     if_ok c.ahead.result A N
-    (λ s so n f. step_ahead n (reverse c.args.entries.now) c.args.stores.now.log (means c.args.session.now) c.args.time c.pos-position.result c.vector.result c.sub.result.now s f.log (search rules) c.pos-position.ensures.value c.sub.ensures.value c.vector.ensures.value
+    (λ s so n f. step_ahead n (reverse c.args.entries.now) c.args.stores.now.log (means c.args.session.now) c.args.time c.pos-position.result.now c.vector.result.now c.sub.result.now s f.log (search rules) c.pos-position.ensures.value c.sub.ensures.value c.vector.ensures.value
     (search rules) (so n (reverse c.args.entries.now) f.log))
     c.ahead.ensures.next
 
@@ -23,6 +23,6 @@ returns-then-bodies-clause-next c =
     let B : Step → Type 0 = λ s. (n : ℕ) → IsTied n (reverse c.args.entries.now) c.args.stores.now → IsBodyStep (reverse c.args.entries.now) (means c.args.session.now) c.args.time s in
     let N : Step → Type 0 = λ s. (n : ℕ) → IsTied n (reverse c.args.entries.now) c.args.stores.now → IsNextStep n (reverse c.args.entries.now) (means c.args.session.now) c.args.time s in
     if_ok c.send_body.result B N
-    (λ s so n f. step_body n (reverse c.args.entries.now) c.args.stores.now.log (means c.args.session.now) c.args.time c.pos-position.result c.vector.result s f.log (search rules) c.pos-position.ensures.value c.vector.ensures.value
+    (λ s so n f. step_body n (reverse c.args.entries.now) c.args.stores.now.log (means c.args.session.now) c.args.time c.pos-position.result.now c.vector.result.now s f.log (search rules) c.pos-position.ensures.value c.vector.ensures.value
     (search rules) (sym c.bodies.ensures ∙ c.if-bodies.true) (so n f))
     c.send_body.ensures.next

@@ -25,7 +25,7 @@ invariant_of-self-2 c =
     let j : List Entry = reverse c.self.inside.diary.entries.items in
     let tied = c.self.invariant.1 c.in_ok-time.ensures.worked in
     stands c.self.inside.id _ _ _ _ _ _ c.self.invariant.0 c.in_ok-time.ensures.items c.in_ok-accepted.ensures.items
-    (c.in_ok-take.ensures.taken c.self.inside.id j c.in_ok-time.time c.args.caller c.args.msg c.vector-at.result refl tied)
+    (c.in_ok-take.ensures.taken c.self.inside.id j c.in_ok-time.time c.args.caller c.args.msg c.vector-at.result.now refl tied)
 
 pub returns-clause-ok : goal.returns-clause-ok
 returns-clause-ok c sessions needs =
@@ -33,5 +33,5 @@ returns-clause-ok c sessions needs =
     let tied = c.self.invariant.1 c.in_ok-time.ensures.worked in
     let now = c.in_ok-take.ensures.taken c.self.inside.id j c.in_ok-time.time c.args.caller c.args.msg [] refl tied in
     rw (← c.self.view_is) (adds _ _ _ _ _ _ _ _ _ sessions needs _ _ _ c.in_ok-time.ensures.items c.in_ok-accepted.ensures.items c.in_ok-take.ensures.sets c.in_ok-accepted.ensures.spent
-    (accepted_ready sessions needs _ _ _ _ _ _ c.vector-has.result _ c.msg_in_range.ensures c.vector-at.ensures.range (c.vector-has.ensures.value ∙ tied.log.vector) (search rules) (c.vector-at.ensures.value ∙ now.log.vector))
-    c.ranges.caller.fits refl refl c.in_ok-time.ensures.time ((c.vector-at.result, refl), refl))
+    (accepted_ready sessions needs _ _ _ _ _ _ c.vector-has.result.now _ c.msg_in_range.ensures c.vector-at.ensures.range (c.vector-has.ensures.value ∙ tied.log.vector) (search rules) (c.vector-at.ensures.value ∙ now.log.vector))
+    c.ranges.caller.fits refl refl c.in_ok-time.ensures.time ((c.vector-at.result.now, refl), refl))

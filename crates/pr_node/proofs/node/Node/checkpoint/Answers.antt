@@ -35,7 +35,7 @@ returns-clause-ok c needs =
     (checkpoint_ready needs n j sets a.standing c.sub.result.now c.in_ok-time.time c.args.caller msg c.message-msg.ensures.range c.message-msg.ensures.number c.message-msg.ensures.time c.sub.ensures.value snap))
     c.ranges.caller.fits refl c.time.ensures.value c.in_ok-time.ensures.time (
       (ap (λ (m : Msg). Sent m) c.in_ok-sent.ensures, c.message-msg.ensures.stream, ends.1),
-      checkpoint_noted a (means c.sent.new.self) c.vector.result c.in_ok-time.time c.args.caller c.in_ok-sent.sent c.requires c.sent.ensures
+      checkpoint_noted a (means c.sent.new.self) c.vector.result.now c.in_ok-time.time c.args.caller c.in_ok-sent.sent c.requires c.sent.ensures
           (ap (λ (m : Msg). m.stream) c.in_ok-sent.ensures ∙ c.message-msg.ensures.stream)
           (ap (λ (m : Msg). to_of m.kind) c.in_ok-sent.ensures ∙ ends.0 ∙ sym (c.vector.ensures.value ∙ tied.gaps.vector))
           (subst (λ (m : Msg). IsCheckpoint m.kind) (sym c.in_ok-sent.ensures) ends.1),

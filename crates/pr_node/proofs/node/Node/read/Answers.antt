@@ -23,4 +23,4 @@ returns-clause-ok c sessions =
     let tied = c.self.invariant.1 c.in_ok-time.ensures.worked in
     rw (← c.self.view_is) (adds _ _ _ _ _ _ _ _ _ sessions (λ x. c.args.needs.now) _ _ _ c.in_ok-time.ensures.items c.in_ok-answered-2.ensures.items refl c.in_ok-answered-2.ensures.spent
     (answered_ready sessions _ _ _ _ _ _ _ _ _ _ _ c.ranges.client.fits c.bytes.ensures.name c.in_ok-answered.ensures.1 c.answer.ensures.range c.vector-at.ensures.range (c.vector-at.ensures.value ∙ tied.log.vector) (search rules) (c.answer.ensures.value c.self.inside.id j tied))
-    c.ranges.caller.fits refl refl c.in_ok-time.ensures.time (c.vector-at.result, ap (λ (r : Reply). Answered c.args.client c.args.name.now r c.vector-at.result) (c.in_ok-answered.ensures.1 ∙ sym c.in_ok-answered.ensures.0)))
+    c.ranges.caller.fits refl refl c.in_ok-time.ensures.time (c.vector-at.result.now, ap (λ (r : Reply). Answered c.args.client c.args.name.now r c.vector-at.result.now) (c.in_ok-answered.ensures.1 ∙ sym c.in_ok-answered.ensures.0)))

@@ -16,10 +16,10 @@ returns-clause-ok c sessions needs =
     let tied = c.self.invariant.1 c.in_ok-time.ensures.worked in
     rw (← c.self.view_is) (adds _ _ _ _ _ _ _ _ _ sessions needs _ _ _ c.in_ok-time.ensures.items c.in_ok-state.ensures.items refl c.in_ok-state.ensures.spent
     (record {
-      in_range = (c.vector-at.ensures.range, c.cut_at-cut.ensures.range, c.floor-floor.ensures.range, c.in_ok-precise.ensures.range);
+      in_range = (c.vector.ensures.range, c.cut_at.ensures.range, c.floor-floor.ensures.range, c.in_ok-precise.ensures.range);
       may_come = (
-        c.vector-at.ensures.value ∙ tied.log.vector,
-        c.cut_at-cut.ensures.value ∙ tied.log.cut,
+        c.vector.ensures.value ∙ tied.log.vector,
+        c.cut_at.ensures.value ∙ tied.log.cut,
         c.floor-floor.ensures.value ∙ tied.marks.floor,
         states_are c.self.inside.id j _ _ tied.gaps c.in_ok-precise.ensures.value c.in_ok-precise.ensures.range,
       );

@@ -15,9 +15,9 @@ returns-then-not-le-2 c =
     let j = reverse c.args.entries.now in
     let st = (means c.args.session.now).standing in
     let low : Le (cuts_of j) st.position =
-    subst (λ (v : List ℕ). Le (cuts_of j) v) c.pos-position.ensures.value (subst (λ (v : List ℕ). Le v c.pos-position.result) c.cuts_of-cut.ensures (c.if-not-le.ensures.0 refl)) in
+    subst (λ (v : List ℕ). Le (cuts_of j) v) c.pos-position.ensures.value (subst (λ (v : List ℕ). Le v c.pos-position.result.now) c.cuts_of-cut.ensures (c.if-not-le.ensures.0 refl)) in
     let past : Le (current_vector j) st.position → ⊥ = λ l.
-    let f : false ≡ true = c.if-not-le-2.ensures.1 (subst (λ (v : List ℕ). Le v c.pos-position.result) (sym c.current_vector.ensures) (subst (λ (v : List ℕ). Le (current_vector j) v) (sym c.pos-position.ensures.value) l)) in cc in
+    let f : false ≡ true = c.if-not-le-2.ensures.1 (subst (λ (v : List ℕ). Le v c.pos-position.result.now) (sym c.current_vector.ensures) (subst (λ (v : List ℕ). Le (current_vector j) v) (sym c.pos-position.ensures.value) l)) in cc in
     sends c.args.node j st c.in_ok-kind.kind low past
     (subst (λ (s : List Span). IsAhead c.args.node j s st.position c.in_ok-kind.kind) c.sub.ensures.value (subst (λ (v : List ℕ). IsAhead c.args.node j c.sub.result.now v c.in_ok-kind.kind) c.pos-position.ensures.value c.in_ok-kind.ensures))
 
@@ -26,9 +26,9 @@ returns-then-bodies c =
     let j = reverse c.args.entries.now in
     let st = (means c.args.session.now).standing in
     let low : Le (cuts_of j) st.position =
-    subst (λ (v : List ℕ). Le (cuts_of j) v) c.pos-position.ensures.value (subst (λ (v : List ℕ). Le v c.pos-position.result) c.cuts_of-cut.ensures (c.if-not-le.ensures.0 refl)) in
+    subst (λ (v : List ℕ). Le (cuts_of j) v) c.pos-position.ensures.value (subst (λ (v : List ℕ). Le v c.pos-position.result.now) c.cuts_of-cut.ensures (c.if-not-le.ensures.0 refl)) in
     let high : Le (current_vector j) st.position =
-    subst (λ (v : List ℕ). Le (current_vector j) v) c.pos-position.ensures.value (subst (λ (v : List ℕ). Le v c.pos-position.result) c.current_vector.ensures (c.if-not-le-2.ensures.0 refl)) in
+    subst (λ (v : List ℕ). Le (current_vector j) v) c.pos-position.ensures.value (subst (λ (v : List ℕ). Le v c.pos-position.result.now) c.current_vector.ensures (c.if-not-le-2.ensures.0 refl)) in
     if_ok c.next_body.result (IsBodyTurn j st) (λ next. IsTurn c.args.node j st (turn_of next))
     (λ x is. body_turn c.args.node j st x low high (sym c.bodies.ensures ∙ c.if-bodies.true) is)
     c.next_body.ensures
