@@ -200,6 +200,11 @@ pub first_late : (ys : Entries) (c : ℕ) (r : Option (ℕ × Bor WriteRec)) →
 first_late ys c None entry above first none = λ k past. none k (less_key c k past)
 first_late ys c (Some e) entry above first none = (above, entry, λ k past some. key_up_to e.0 k (first k (less_key c k past) some))
 
+-- no write stands in no entries
+pub no_late : (ys : Entries) → length ys ≡ 0 → (c : ℕ) → at_clock ys c ≡ None
+no_late [] none c = refl
+no_late (e ∷ ys) none c = absurd (omega (arith, none))
+
 -- ---- an entry more
 
 pub past_last : (cs : List ℕ) (c e : ℕ) → Rise cs → nat_lt (get_or cs (length cs - 1) e) c ≡ true → (k d : ℕ) → k < length cs → get_or cs k d < c

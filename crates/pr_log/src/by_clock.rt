@@ -234,6 +234,9 @@ fn first_late(late: &Map, clock: u64) -> Option<(u64, &WriteRec)>
     ensures first { IfSome result (λ e. (d : ℕ) → IsLtBy nat_cmp clock d → IsSome (at_clock late.now.entries d) → IsLeBy nat_cmp e.0 d) }
     ensures none { IfNone result ((d : ℕ) → IsLtBy nat_cmp clock d → at_clock late.now.entries d ≡ None) }
 {
+    if late.is_empty() {
+        return None;
+    }
     match late
         .range((Bound::Excluded(clock), Bound::Unbounded))
         .next()
