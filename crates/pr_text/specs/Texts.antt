@@ -1,5 +1,5 @@
 -- The texts of a line's fields.
-use Rattle.std.specs.Prelude.{ℕ, ◌+◌, List, [], ◌∷◌, ◌++◌, map, Option, None, Some, decimal, nat_eq, cond}
+use Rattle.std.specs.Prelude.{◌≡◌, ◌<◌, ◌⊎◌, ℕ, ◌+◌, List, [], ◌∷◌, ◌++◌, map, Option, None, Some, decimal, nat_eq, cond}
 use Rattle.pr_stamps.specs.Point.{Point}
 use Rattle.pr_stamps.specs.declared.mark.Mark.{Mark}
 use Rattle.pr_vectors.specs.Vector.{clock_of}
@@ -47,6 +47,14 @@ clocks (l ∷ ls) w v = cond (nat_eq (clock_of v w) 0) (clocks ls (w + 1) v) ((l
 
 abbrev pub vector_text : List Decl → List ℕ → List ℕ
 vector_text ds v = listed (clocks (labels_of kinds.Node ds) 0 v)
+
+-- the text is that of the label's clock behind a comma, where that is not 0
+abbrev pub IsKept : List ℕ → ℕ → List ℕ → Type 0
+IsKept label clock text = 0 < clock → text ≡ 44 ∷ (label ++ 58 ∷ decimal clock)
+
+-- these are no labels, or those of the nodes
+abbrev pub AreOfNodes : List Decl → List (List ℕ) → Type 0
+AreOfNodes ds labels = (labels ≡ []) ⊎ (labels ≡ labels_of kinds.Node ds)
 
 -- ---- rows and pairs
 

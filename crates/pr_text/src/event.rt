@@ -1,9 +1,12 @@
 // The line of an event.
 ghost use Rattle.pr_text.specs.Lines.{line_text, sentence};
+ghost use Rattle.pr_text.specs.Texts.{AreOfNodes};
 ghost use Rattle.std.specs.Prelude.{◌≡◌, ◌++◌, [], OnErr, OnOk};
 
+use crate::ClockTexts;
 use crate::client::{push_answered, push_behind, push_moved, push_wrote};
 use crate::node::{push_conflicts, push_cut, push_dropped, push_state};
+use crate::stock::Stock;
 use crate::stream::{
     push_accepted, push_attached, push_down, push_gapped, push_idle, push_missing, push_sent,
     push_stale,
@@ -19,27 +22,68 @@ pub fn line(decls: &Decls, node: u32, event: &Event, line: &mut Bytes) -> Result
     ensures ok { OnOk result (line.new ≡ line_text decls.now.list node event.now) }
     ensures err { OnErr result (line.new ≡ []) }
 {
-    match make_line(decls, node, event, line) {
+    match make_line(&Stock::new(decls, &[]), node, event, line) {
         Ok(()) => Ok(()),
-        Err(_) => {
-            line.truncate(0);
-            Err(NoMemory)
-        }
+        Err(_) => Err(refused(line)),
     }
 }
 
+/// Makes the line that `line` makes, with texts of clocks that are kept for the lines to come. Where these are of no node
+/// yet, and where a node's clock has more digits than before, it takes memory for them too.
+pub fn next_line(
+    decls: &Decls,
+    clocks: &mut ClockTexts,
+    node: u32,
+    event: &Event,
+    line: &mut Bytes,
+) -> Result<(), NoMemory>
+    requires { AreOfNodes decls.now.list clocks.old }
+    ensures ok { OnOk result (line.new ≡ line_text decls.now.list node event.now) }
+    ensures err { OnErr result (line.new ≡ []) }
+    ensures nodes { AreOfNodes decls.now.list clocks.new }
+{
+    match make_next(decls, clocks, node, event, line) {
+        Ok(()) => Ok(()),
+        Err(_) => Err(refused(line)),
+    }
+}
+
+// Leaves nothing of a line.
+fn refused(line: &mut Bytes) -> NoMemory
+    ensures { line.new ≡ [] }
+{
+    line.truncate(0);
+    NoMemory
+}
+
+// Makes the event's line in place of what `text` had. A refusal leaves that, or a part of the line.
+fn make_next(
+    decls: &Decls,
+    clocks: &mut ClockTexts,
+    node: u32,
+    event: &Event,
+    text: &mut Bytes,
+) -> Result<(), NoMemory>
+    requires { AreOfNodes decls.now.list clocks.old }
+    ensures line { OnOk result (text.new ≡ line_text decls.now.list node event.now) }
+    ensures nodes { AreOfNodes decls.now.list clocks.new }
+{
+    clocks.expect(decls, event)?;
+    make_line(&Stock::new(decls, clocks.pieces()), node, event, text)
+}
+
 // Makes the event's line in place of what `text` had. A refusal leaves a part of it.
-fn make_line(decls: &Decls, node: u32, event: &Event, text: &mut Bytes) -> Result<(), NoMemory>
-    ensures { OnOk result (text.new ≡ line_text decls.now.list node event.now) }
+fn make_line(stock: &Stock, node: u32, event: &Event, text: &mut Bytes) -> Result<(), NoMemory>
+    ensures { OnOk result (text.new ≡ line_text stock.now.list node event.now) }
 {
     text.truncate(0);
-    push_event(decls, node, event, text)?;
+    push_event(stock, node, event, text)?;
     text.push(b'\n')
 }
 
 // Adds the event's first word and its fields.
-fn push_event(decls: &Decls, node: u32, event: &Event, text: &mut Bytes) -> Result<(), NoMemory>
-    ensures { OnOk result (text.new ≡ text.old ++ sentence decls.now.list node event.now) }
+fn push_event(stock: &Stock, node: u32, event: &Event, text: &mut Bytes) -> Result<(), NoMemory>
+    ensures { OnOk result (text.new ≡ text.old ++ sentence stock.now.list node event.now) }
 {
     match event {
         Event::Wrote {
@@ -47,31 +91,31 @@ fn push_event(decls: &Decls, node: u32, event: &Event, text: &mut Bytes) -> Resu
             write,
             body,
             after,
-        } => push_wrote(decls, *client, write, body.as_slice(), after, text),
-        Event::Attached { stream, at } => push_attached(decls, *stream, at, text),
-        Event::Sent { msg } => push_sent(decls, msg, text),
-        Event::Idle { stream } => push_idle(decls, *stream, text),
-        Event::Stale { stream, cut } => push_stale(decls, *stream, cut, text),
-        Event::Accepted { msg, at } => push_accepted(decls, msg, at, text),
-        Event::Gapped { msg, has } => push_gapped(decls, msg, has, text),
-        Event::Missing { stream, number } => push_missing(decls, *stream, *number, text),
-        Event::Down { stream, cause } => push_down(decls, *stream, cause, text),
+        } => push_wrote(stock, *client, write, body.as_slice(), after, text),
+        Event::Attached { stream, at } => push_attached(stock, *stream, at, text),
+        Event::Sent { msg } => push_sent(stock, msg, text),
+        Event::Idle { stream } => push_idle(stock.decls(), *stream, text),
+        Event::Stale { stream, cut } => push_stale(stock, *stream, cut, text),
+        Event::Accepted { msg, at } => push_accepted(stock, msg, at, text),
+        Event::Gapped { msg, has } => push_gapped(stock, msg, has, text),
+        Event::Missing { stream, number } => push_missing(stock.decls(), *stream, *number, text),
+        Event::Down { stream, cause } => push_down(stock.decls(), *stream, cause, text),
         Event::Answered {
             client,
             name,
             reply,
             at,
-        } => push_answered(decls, *client, name, reply, at, text),
-        Event::Behind { client, needs, has } => push_behind(decls, *client, needs, has, text),
-        Event::Moved { client } => push_moved(decls, node, *client, text),
-        Event::Cut { at } => push_cut(decls, node, at, text),
-        Event::Dropped { name } => push_dropped(decls, node, name, text),
-        Event::Conflicts { name, found } => push_conflicts(decls, node, name, found, text),
+        } => push_answered(stock, *client, name, reply, at, text),
+        Event::Behind { client, needs, has } => push_behind(stock, *client, needs, has, text),
+        Event::Moved { client } => push_moved(stock.decls(), node, *client, text),
+        Event::Cut { at } => push_cut(stock, node, at, text),
+        Event::Dropped { name } => push_dropped(stock.decls(), node, name, text),
+        Event::Conflicts { name, found } => push_conflicts(stock.decls(), node, name, found, text),
         Event::State {
             at,
             cut,
             floor,
             precise,
-        } => push_state(decls, node, at, cut, floor, precise.as_slice(), text),
+        } => push_state(stock, node, at, cut, floor, precise.as_slice(), text),
     }
 }

@@ -4,8 +4,8 @@ ghost use Rattle.pr_text.specs.Texts.{more, stamp_text, vector_text};
 ghost use Rattle.pr_sets.specs.Text.{set_text};
 ghost use Rattle.std.specs.Prelude.{◌≡◌, ◌++◌, ◌∷◌, [], OnOk};
 
-use crate::packed::push_packed;
 use crate::stamp::{push_prev, push_stamp};
+use crate::stock::Stock;
 use pr_inval::WriteRec;
 use pr_names::Name;
 use pr_script::{Bytes, Decls};
@@ -47,15 +47,15 @@ pub fn push_stamp_field(decls: &Decls, stamp: &Stamp, text: &mut Bytes) -> Resul
 /// Adds the word and the vector, each behind a space.
 pub fn push_at(
     word: &[u8],
-    decls: &Decls,
+    stock: &Stock,
     vector: &PackedVector,
     text: &mut Bytes,
 ) -> Result<(), NoMemory>
-    ensures { OnOk result (text.new ≡ text.old ++ 32 ∷ (word.now ++ 32 ∷ vector_text decls.now.list vector.now)) }
+    ensures { OnOk result (text.new ≡ text.old ++ 32 ∷ (word.now ++ 32 ∷ vector_text stock.now.list vector.now)) }
 {
     push_word(word, text)?;
     text.push(b' ')?;
-    push_packed(decls, vector, text)
+    stock.push(vector, text)
 }
 
 /// Adds the write's stamp, and the newest one of its name before it.
@@ -69,13 +69,13 @@ pub fn push_over(decls: &Decls, write: &WriteRec, text: &mut Bytes) -> Result<()
 
 /// Adds the vectors where a message starts and ends.
 pub fn push_span(
-    decls: &Decls,
+    stock: &Stock,
     from: &PackedVector,
     to: &PackedVector,
     text: &mut Bytes,
 ) -> Result<(), NoMemory>
-    ensures { OnOk result (text.new ≡ text.old ++ more 32 (span_fields decls.now.list from.now to.now)) }
+    ensures { OnOk result (text.new ≡ text.old ++ more 32 (span_fields stock.now.list from.now to.now)) }
 {
-    push_at(b"from", decls, from, text)?;
-    push_at(b"to", decls, to, text)
+    push_at(b"from", stock, from, text)?;
+    push_at(b"to", stock, to, text)
 }

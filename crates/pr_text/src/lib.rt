@@ -3,6 +3,7 @@
 
 mod answer;
 mod client;
+mod clock_texts;
 mod ending;
 mod event;
 mod expectation;
@@ -14,16 +15,20 @@ mod law;
 mod message;
 mod node;
 mod packed;
+mod piece;
+mod pieces;
 pub mod plain;
 mod rows;
 mod stamp;
+mod stock;
 mod stream;
 #[cfg(test)]
 mod tests;
 mod vector;
 
+pub use clock_texts::ClockTexts;
 pub use ending::{bad, error, lied, ok, unmet};
-pub use event::line;
+pub use event::{line, next_line};
 pub use expectation::met;
 pub use head::heads;
 pub use job::{count_lines, is_owned_by, turns_of};

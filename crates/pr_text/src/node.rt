@@ -7,6 +7,7 @@ ghost use Rattle.std.specs.Prelude.{◌≡◌, ◌++◌, OnOk, map};
 use crate::answer::push_found;
 use crate::field::{push_at, push_name, push_word};
 use crate::label::push_about;
+use crate::stock::Stock;
 use crate::vector::push_vector;
 use pr_names::Name;
 use pr_script::{Bytes, Decls, Kind};
@@ -16,15 +17,15 @@ use pr_vectors::{PackedVector, Vector};
 
 /// The node's log was truncated.
 pub fn push_cut(
-    decls: &Decls,
+    stock: &Stock,
     node: u32,
     at: &PackedVector,
     text: &mut Bytes,
 ) -> Result<(), NoMemory>
-    ensures { OnOk result (text.new ≡ text.old ++ sentence decls.now.list node (events.Cut at.now)) }
+    ensures { OnOk result (text.new ≡ text.old ++ sentence stock.now.list node (events.Cut at.now)) }
 {
-    push_about(b"cut", decls, Kind::Node, node, text)?;
-    push_at(b"at", decls, at, text)
+    push_about(b"cut", stock.decls(), Kind::Node, node, text)?;
+    push_at(b"at", stock, at, text)
 }
 
 /// The node dropped its bodies of the name.
@@ -52,7 +53,7 @@ pub fn push_conflicts(
 
 /// The node's vectors.
 pub fn push_state(
-    decls: &Decls,
+    stock: &Stock,
     node: u32,
     at: &PackedVector,
     cut: &PackedVector,
@@ -60,14 +61,14 @@ pub fn push_state(
     precise: &[Vector],
     text: &mut Bytes,
 ) -> Result<(), NoMemory>
-    ensures { OnOk result (text.new ≡ text.old ++ sentence decls.now.list node (events.State at.now cut.now floor.now precise.now)) }
+    ensures { OnOk result (text.new ≡ text.old ++ sentence stock.now.list node (events.State at.now cut.now floor.now precise.now)) }
 {
-    push_about(b"state", decls, Kind::Node, node, text)?;
-    push_at(b"at", decls, at, text)?;
-    push_at(b"cut", decls, cut, text)?;
-    push_at(b"floor", decls, floor, text)?;
+    push_about(b"state", stock.decls(), Kind::Node, node, text)?;
+    push_at(b"at", stock, at, text)?;
+    push_at(b"cut", stock, cut, text)?;
+    push_at(b"floor", stock, floor, text)?;
     push_word(b"precise", text)?;
-    push_vectors(decls, precise, text)
+    push_vectors(stock.decls(), precise, text)
 }
 
 fn push_vectors(decls: &Decls, vectors: &[Vector], text: &mut Bytes) -> Result<(), NoMemory>

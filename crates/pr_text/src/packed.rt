@@ -1,22 +1,19 @@
 // Vectors at rest.
 ghost use Rattle.pr_vectors.specs.Vector.{clock_of};
-ghost use Rattle.pr_text.specs.Texts.{clocks, listed, vector_text};
+ghost use Rattle.pr_text.specs.Texts.{clocks, listed};
 ghost use Rattle.std.specs.Prelude.{◌≡◌, ◌++◌, OnOk};
 
 use crate::vector::{push_clock, push_hyphen};
-use pr_script::{Bytes, Decls, Kind};
+use pr_script::Bytes;
 use pr_stamps::NoMemory;
 use pr_vectors::PackedVector;
 
-/// Adds what `push_vector` adds for the same vector, without unpacking it.
-pub fn push_packed(decls: &Decls, vector: &PackedVector, text: &mut Bytes) -> Result<(), NoMemory>
-    ensures { OnOk result (text.new ≡ text.old ++ vector_text decls.now.list vector.now) }
-{
-    push_clocks(decls.labels(Kind::Node), vector, text)
-}
-
-// Adds the vector over these nodes' labels.
-fn push_clocks(labels: &[Bytes], vector: &PackedVector, text: &mut Bytes) -> Result<(), NoMemory>
+/// Adds the vector over these nodes' labels, as `push_vector` does, without unpacking it.
+pub fn push_clocks(
+    labels: &[Bytes],
+    vector: &PackedVector,
+    text: &mut Bytes,
+) -> Result<(), NoMemory>
     ensures { OnOk result (text.new ≡ text.old ++ listed (clocks labels.now 0 vector.now)) }
 {
     let mut node = 0usize;
@@ -32,8 +29,8 @@ fn push_clocks(labels: &[Bytes], vector: &PackedVector, text: &mut Bytes) -> Res
     push_hyphen(some, text)
 }
 
-// The clock of a node; past the last node it is 0.
-fn clock_at(vector: &PackedVector, node: usize) -> u64
+/// The clock of a node; past the last node it is 0.
+pub fn clock_at(vector: &PackedVector, node: usize) -> u64
     ensures { result ≡ clock_of vector.now node }
 {
     let _in_range = vector.at(0);

@@ -10,6 +10,7 @@ use crate::field::{push_at, push_word};
 use crate::label::push_about;
 use crate::message::{push_kind, start_of};
 use crate::stamp::push_number;
+use crate::stock::Stock;
 use crate::vector::push_vector;
 use pr_inval::Msg;
 use pr_script::{Bytes, Decls, Kind};
@@ -19,23 +20,23 @@ use pr_vectors::{PackedVector, Vector};
 
 /// The stream began, or began again.
 pub fn push_attached(
-    decls: &Decls,
+    stock: &Stock,
     stream: u32,
     at: &PackedVector,
     text: &mut Bytes,
 ) -> Result<(), NoMemory>
-    ensures { OnOk result (text.new ≡ text.old ++ sentence decls.now.list 0 (events.Attached stream at.now)) }
+    ensures { OnOk result (text.new ≡ text.old ++ sentence stock.now.list 0 (events.Attached stream at.now)) }
 {
-    push_stream(b"attach", decls, stream, text)?;
-    push_at(b"at", decls, at, text)
+    push_stream(b"attach", stock.decls(), stream, text)?;
+    push_at(b"at", stock, at, text)
 }
 
 /// The source sent a message.
-pub fn push_sent(decls: &Decls, msg: &Msg, text: &mut Bytes) -> Result<(), NoMemory>
-    ensures { OnOk result (text.new ≡ text.old ++ sentence decls.now.list 0 (events.Sent msg.now)) }
+pub fn push_sent(stock: &Stock, msg: &Msg, text: &mut Bytes) -> Result<(), NoMemory>
+    ensures { OnOk result (text.new ≡ text.old ++ sentence stock.now.list 0 (events.Sent msg.now)) }
 {
-    push_message(b"send", decls, msg, text)?;
-    push_kind(decls, &msg.kind, text)
+    push_message(b"send", stock.decls(), msg, text)?;
+    push_kind(stock, &msg.kind, text)
 }
 
 /// The source had nothing to send.
@@ -47,42 +48,42 @@ pub fn push_idle(decls: &Decls, stream: u32, text: &mut Bytes) -> Result<(), NoM
 
 /// The stream lies behind the source's cut.
 pub fn push_stale(
-    decls: &Decls,
+    stock: &Stock,
     stream: u32,
     cut: &PackedVector,
     text: &mut Bytes,
 ) -> Result<(), NoMemory>
-    ensures { OnOk result (text.new ≡ text.old ++ sentence decls.now.list 0 (events.Stale stream cut.now)) }
+    ensures { OnOk result (text.new ≡ text.old ++ sentence stock.now.list 0 (events.Stale stream cut.now)) }
 {
-    push_stream(b"stale", decls, stream, text)?;
-    push_at(b"cut", decls, cut, text)
+    push_stream(b"stale", stock.decls(), stream, text)?;
+    push_at(b"cut", stock, cut, text)
 }
 
 /// The destination took a message.
 pub fn push_accepted(
-    decls: &Decls,
+    stock: &Stock,
     msg: &Msg,
     at: &PackedVector,
     text: &mut Bytes,
 ) -> Result<(), NoMemory>
-    ensures { OnOk result (text.new ≡ text.old ++ sentence decls.now.list 0 (events.Accepted msg.now at.now)) }
+    ensures { OnOk result (text.new ≡ text.old ++ sentence stock.now.list 0 (events.Accepted msg.now at.now)) }
 {
-    push_message(b"accept", decls, msg, text)?;
-    push_at(b"at", decls, at, text)
+    push_message(b"accept", stock.decls(), msg, text)?;
+    push_at(b"at", stock, at, text)
 }
 
 /// The destination lacks what comes before a message.
 pub fn push_gapped(
-    decls: &Decls,
+    stock: &Stock,
     msg: &Msg,
     has: &PackedVector,
     text: &mut Bytes,
 ) -> Result<(), NoMemory>
-    ensures { OnOk result (text.new ≡ text.old ++ sentence decls.now.list 0 (events.Gapped msg.now has.now)) }
+    ensures { OnOk result (text.new ≡ text.old ++ sentence stock.now.list 0 (events.Gapped msg.now has.now)) }
 {
-    push_message(b"gap", decls, msg, text)?;
-    push_needs(decls, &start_of(&msg.kind), text)?;
-    push_at(b"has", decls, has, text)
+    push_message(b"gap", stock.decls(), msg, text)?;
+    push_needs(stock.decls(), &start_of(&msg.kind), text)?;
+    push_at(b"has", stock, has, text)
 }
 
 fn push_needs(decls: &Decls, start: &Vector, text: &mut Bytes) -> Result<(), NoMemory>

@@ -19,6 +19,7 @@ use pr_crew::{Gate, phase};
 use pr_ports::Sink;
 use pr_script::{Command, Script, phase_len};
 use pr_stamps::Seq;
+use pr_text::ClockTexts;
 use pr_wires::Wires;
 use std::alloc::Global;
 use std::sync::Wait;
@@ -82,12 +83,14 @@ impl<'a, R: Threads + Wait + Sync, G: Gate> Beside<'a, R, G> {
         ensures rises { K.faults out.old ≤ K.faults out.new }
     {
         let list = script.commands.as_slice();
+        let decls = &script.decls;
+        let mut clocks = ClockTexts::new(self.alloc);
         let mut text = Seq::new(self.alloc);
         let mut told = 0;
         let mut at = 0;
         while at < list.len() {
             let step = self.step(run, &list[at], &list[at + 1..], wires);
-            told = tell_from(&script.decls, &run.engine, told, &mut text, out)?;
+            told = tell_from(decls, &mut clocks, &run.engine, told, &mut text, out)?;
             at += step? + 1;
         }
         Ok(())

@@ -25,6 +25,7 @@ use pr_ports::Sink;
 use pr_script::{Decls, Script};
 use pr_sim::Engine;
 use pr_stamps::Seq;
+use pr_text::ClockTexts;
 use std::alloc::Global;
 
 /// How a kept run ended.
@@ -160,13 +161,15 @@ fn commands<D: Disk, K: Sink>(
     ensures rises { K.faults out.old ≤ K.faults out.new }
 {
     let list = script.commands.as_slice();
+    let decls = &script.decls;
+    let mut clocks = ClockTexts::new(alloc);
     let mut text = Seq::new(alloc);
     let mut told = 0;
     let mut at = 0;
     while at < list.len() {
         let step = run.step(&list[at], &list[at + 1..]);
         keep_from(&run.engine, told, run.unmet, keep)?;
-        told = tell_from(&script.decls, &run.engine, told, &mut text, out)?;
+        told = tell_from(decls, &mut clocks, &run.engine, told, &mut text, out)?;
         at += step? + 1;
     }
     Ok(())

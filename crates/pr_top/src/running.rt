@@ -8,6 +8,7 @@ ghost use Rattle.pr_story.specs.History.{NodeEntry};
 ghost use Rattle.pr_story.specs.Scripts.{JobAfterJob, Order};
 ghost use Rattle.pr_text.specs.Endings.{ok_line};
 ghost use Rattle.pr_text.specs.Lines.{line_text};
+ghost use Rattle.pr_text.specs.Texts.{AreOfNodes};
 ghost use Rattle.pr_top.specs.Downs.{TellsTrueDowns};
 ghost use Rattle.pr_top.specs.Progress.{HasCome, HasRunAll, HasTold, IsExpected, Writes, entry_lines};
 ghost use Rattle.pr_top.specs.Runs.{HasRun, HasRunTo, IsToEnd, all_sound};
@@ -24,7 +25,7 @@ use pr_script::{Bytes, Decls, Script};
 use pr_sim::Engine;
 use pr_stamps::{NoMemory, Seq};
 use pr_story::Event;
-use pr_text::{heads, line, ok, unmet};
+use pr_text::{ClockTexts, heads, line, next_line, ok, unmet};
 use std::alloc::Global;
 use std::mem;
 
@@ -151,12 +152,14 @@ fn commands<K: Sink>(alloc: Global, script: &Script, run: &mut Run, out: &mut K)
     ensures rises { K.faults out.old ≤ K.faults out.new }
 {
     let list = script.commands.as_slice();
+    let decls = &script.decls;
+    let mut clocks = ClockTexts::new(alloc);
     let mut text = Seq::new(alloc);
     let mut told = 0;
     let mut at = 0;
     while at < list.len() {
         let step = run.step(&list[at], &list[at + 1..]);
-        told = tell_from(&script.decls, &run.engine, told, &mut text, out)?;
+        told = tell_from(decls, &mut clocks, &run.engine, told, &mut text, out)?;
         at += step? + 1;
     }
     Ok(())
@@ -166,19 +169,22 @@ fn commands<K: Sink>(alloc: Global, script: &Script, run: &mut Run, out: &mut K)
 /// there are.
 pub fn tell_from<K: Sink>(
     decls: &Decls,
+    clocks: &mut ClockTexts,
     engine: &Engine,
     told: usize,
     text: &mut Bytes,
     out: &mut K,
 ) -> Result<usize, Halt>
-    requires { (h : List NodeEntry) × Tells (declared_of decls.now.list) h engine.now × (told ≤ length h) }
+    requires nodes { AreOfNodes decls.now.list clocks.old }
+    requires held { (h : List NodeEntry) × Tells (declared_of decls.now.list) h engine.now × (told ≤ length h) }
     ensures told { (h : List NodeEntry) → Tells (declared_of decls.now.list) h engine.now → Writes (entry_lines decls.now.list (drop told (reverse h))) (HasRisen (K.faults out.old) (K.faults out.new)) (K.text out.old) (K.text out.new) result }
     ensures count { (h : List NodeEntry) → Tells (declared_of decls.now.list) h engine.now → IfOk result (λ n. n ≡ length h) }
+    ensures nodes { AreOfNodes decls.now.list clocks.new }
     ensures rises { K.faults out.old ≤ K.faults out.new }
 {
     let len = engine.history().len();
     for at in told..len {
-        tell_entry(decls, engine, at, text, out)?;
+        tell_entry(decls, clocks, engine, at, text, out)?;
     }
     Ok(len)
 }
@@ -186,22 +192,44 @@ pub fn tell_from<K: Sink>(
 // Writes the line of the entry at this place.
 fn tell_entry<K: Sink>(
     decls: &Decls,
+    clocks: &mut ClockTexts,
     engine: &Engine,
     at: usize,
     text: &mut Bytes,
     out: &mut K,
 ) -> Result<(), Halt>
-    requires { (h : List NodeEntry) × Tells (declared_of decls.now.list) h engine.now × (at < length h) }
+    requires nodes { AreOfNodes decls.now.list clocks.old }
+    requires held { (h : List NodeEntry) × Tells (declared_of decls.now.list) h engine.now × (at < length h) }
     ensures told { (h : List NodeEntry) (e : NodeEntry) → Tells (declared_of decls.now.list) h engine.now → at < length h → Writes (line_text decls.now.list (slice_index_or (reverse h) at e).node (slice_index_or (reverse h) at e).entry.event) (HasRisen (K.faults out.old) (K.faults out.new)) (K.text out.old) (K.text out.new) result }
+    ensures nodes { AreOfNodes decls.now.list clocks.new }
     ensures rises { K.faults out.old ≤ K.faults out.new }
 {
-    tell_line(
+    tell_next(
         decls,
+        clocks,
         engine.node_of(at),
         &engine.entry(at).event,
         text,
         out,
     )
+}
+
+// Writes the line of an event at the node as `tell_line` does, and keeps texts of clocks for the lines to come.
+fn tell_next<K: Sink>(
+    decls: &Decls,
+    clocks: &mut ClockTexts,
+    node: u32,
+    event: &Event,
+    text: &mut Bytes,
+    out: &mut K,
+) -> Result<(), Halt>
+    requires { AreOfNodes decls.now.list clocks.old }
+    ensures told { Writes (line_text decls.now.list node event.now) (HasRisen (K.faults out.old) (K.faults out.new)) (K.text out.old) (K.text out.new) result }
+    ensures nodes { AreOfNodes decls.now.list clocks.new }
+    ensures rises { K.faults out.old ≤ K.faults out.new }
+{
+    next_line(decls, clocks, node, event, text)?;
+    write(out, text.as_slice())
 }
 
 /// Writes the line of an event at the node, made in place of what `text` had.

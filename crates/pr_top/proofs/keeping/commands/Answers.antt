@@ -1,4 +1,4 @@
-use Rattle.std.proofs.Common.{◌≡◌, ◌≤◌, ◌+◌, ◌++◌, [], Err, List, Result, ap, arith, drop, length, refl, reverse, rules, subst, sym, ℕ}
+use Rattle.std.proofs.Common.{◌≡◌, ◌≤◌, ◌+◌, ◌++◌, [], Err, List, Result, ap, arith, drop, length, refl, reverse, rules, subst, sym, ℕ, inl}
 use Rattle.std.proofs.lemmas.List.{drop_all}
 use Rattle.std.proofs.lemmas.Result.{err_from_is_err_and}
 use Rattle.pr_ports.specs.Faults.{HasRisen}
@@ -63,8 +63,8 @@ returns-in_err-keep_from-clause-run g c =
     (over_of JobAfterJob all_sound s (made.0 ++ w.h) f halts.NoMemory made.1 downs) w.all_told made.2 w.written
     (subst (λ (r : Result (Unit {0}) Break). HasKeptFrom g.D.Disk.state g.D.Disk.images g.D.Disk.moment g.D.Disk.images_since c.loop-at.keep c.keep_from.new.keep (placed (reverse (made.0 ++ w.h))) c.loop-at.told v r) done kept))
 
-pub tell_from-requires : goal.tell_from-requires
-tell_from-requires g c =
+pub tell_from-requires-clause-held : goal.tell_from-requires-clause-held
+tell_from-requires-clause-held g c =
     let s = c.args.script.now in
     let ds = s.decls.list in
     let w = c.loop-at.invariant.held.0 in
@@ -132,6 +132,7 @@ returns-in_err-at-clause-run g c =
 pub loop-at-init : goal.loop-at-init
 loop-at-init g c = record {
   rises = omega arith;
+  nodes = inl c.new-clocks.ensures;
   within = omega arith;
   downs = first_downs JobAfterJob c.args.script.now all_sound c.args.run.now.engine c.args.run.now.unmet c.requires.come;
   held = (
@@ -188,6 +189,7 @@ loop-at-preserved g c =
     let d = g.K.Sink.text c.tell_from.new.out in
     record {
       rises = omega (arith, c.loop-at.invariant.rises, c.tell_from.ensures.rises);
+      nodes = c.tell_from.ensures.nodes;
       within = went.0;
       downs = downs_now JobAfterJob all_sound s c.as_slice-list.result.now c.index-list-at.result c.loop-at.at c.loop-at.told c.loop-at.run.engine c.loop-at.run.unmet a b w c.as_slice-list.ensures c.loop-at-test.true c.index-list-at.is f v c.step-step.result (λ h come. c.step-step.ensures.steps s h come) all_sound refl (λ h come. c.step-step.ensures.downs s h come) c.loop-at.invariant.downs;
       held = next_kept g.D.Disk.state g.D.Disk.images g.D.Disk.moment g.D.Disk.images_since s c.loop-at.at c.loop-at.told c.in_ok-at.field-0 c.in_ok-told.told c.loop-at.run.engine f c.loop-at.run.unmet v a b d w new c.args.keep.now c.loop-at.keep c.keep_from.new.keep come (c.in_ok-told.ensures.count (new ++ w.h) tells) (c.in_ok-told.ensures.told (new ++ w.h) tells) before kept;

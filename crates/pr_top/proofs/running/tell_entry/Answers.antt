@@ -12,4 +12,4 @@ returns-clause-told g c = λ h e tells lt.
     let x = get_or (reverse h) c.args.at e in
     let line = ap (λ (n : ℕ). line_text ds n c.entry.result.now.event) (c.node_of.ensures (declared_of ds) h e tells lt)
     ∙ ap (λ (y : Entry). line_text ds x.node y.event) (c.entry.ensures (declared_of ds) h e tells lt) in
-    subst (λ (t : List ℕ). Writes t (HasRisen (g.K.Sink.faults c.args.out.now) (g.K.Sink.faults c.tell_line.new.out)) (g.K.Sink.text c.args.out.now) (g.K.Sink.text c.tell_line.new.out) c.tell_line.result) line c.tell_line.ensures.told
+    subst (λ (t : List ℕ). Writes t (HasRisen (g.K.Sink.faults c.args.out.now) (g.K.Sink.faults c.tell_next.new.out)) (g.K.Sink.text c.args.out.now) (g.K.Sink.text c.tell_next.new.out) c.tell_next.result) line c.tell_next.ensures.told

@@ -11,9 +11,9 @@ use Rattle.pr_top.proofs.Lines.{all_sofar, cut_sofar, more_sofar}
 use Rattle.pr_top.proofs.Written.{risen_then, went_as}
 use Rattle.pr_top.proofs.running.tell_from.Goals as goal
 
-pub tell_entry-requires : goal.tell_entry-requires
-tell_entry-requires g c =
-    let r = c.requires in
+pub tell_entry-requires-clause-held : goal.tell_entry-requires-clause-held
+tell_entry-requires-clause-held g c =
+    let r = c.requires.held in
     let many = ap (λ (ps : List (ℕ × ℕ)). length ps) (c.history-len.ensures (declared_of c.args.decls.now.list) r.0 r.1) ∙ many_places r.0 in
     (r.0, r.1, omega (arith, many, c.loop-at-test.true))
 
@@ -38,6 +38,7 @@ returns-in_err-tell_entry-clause-told g c = λ h tells.
 pub loop-at-preserved : goal.loop-at-preserved
 loop-at-preserved g c = record {
   rises = omega (arith, c.loop-at.invariant.rises, c.tell_entry.ensures.rises);
+  nodes = c.tell_entry.ensures.nodes;
   told = λ h tells.
       let ds = c.args.decls.now.list in
       let many = ap (λ (ps : List (ℕ × ℕ)). length ps) (c.history-len.ensures (declared_of ds) h tells) ∙ many_places h in

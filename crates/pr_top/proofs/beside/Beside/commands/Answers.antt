@@ -1,4 +1,4 @@
-use Rattle.std.proofs.Common.{◌∙◌, ◌≡◌, ◌≤◌, ◌+◌, ◌-◌, ◌++◌, [], Err, List, Result, ap, arith, drop, length, take, refl, reverse, rules, subst, sym, ℕ}
+use Rattle.std.proofs.Common.{◌∙◌, ◌≡◌, ◌≤◌, ◌+◌, ◌-◌, ◌++◌, [], Err, List, Result, ap, arith, drop, length, take, refl, reverse, rules, subst, sym, ℕ, inl}
 use Rattle.std.proofs.lemmas.Result.{err_from_is_err_and}
 use Rattle.pr_ports.specs.Faults.{HasRisen}
 use Rattle.pr_script.specs.Steps.{Numbered}
@@ -16,6 +16,7 @@ use Rattle.pr_top.proofs.beside.Beside.commands.Goals as goal
 pub loop-at-init : goal.loop-at-init
 loop-at-init g c = record {
   rises = omega arith;
+  nodes = inl c.new-clocks.ensures;
   within = omega arith;
   made = let none = c.requires.few in omega (arith, none);
   sound = refl;
@@ -25,8 +26,8 @@ loop-at-init g c = record {
   held = record { h = []; come = c.requires.come; all_told = refl; written = appends_none (g.K.Sink.text c.args.out.now) };
 }
 
-pub tell_from-requires : goal.tell_from-requires
-tell_from-requires g c =
+pub tell_from-requires-clause-held : goal.tell_from-requires-clause-held
+tell_from-requires-clause-held g c =
     let s = c.args.script.now in
     let ds = s.decls.list in
     let w = c.loop-at.invariant.held in
@@ -121,6 +122,7 @@ loop-at-preserved g c =
     let tells = running_tells (declared_of ds) come.attached (new ++ w.h) f come.running in
     record {
       rises = omega (arith, c.loop-at.invariant.rises, c.tell_from.ensures.rises);
+      nodes = c.tell_from.ensures.nodes;
       within = went.0;
       made = let more = c.step-step.ensures.made in let before = c.loop-at.invariant.made in omega (arith, more, before);
       sound = c.step-step.ensures.sound ∙ c.loop-at.invariant.sound;

@@ -1,5 +1,6 @@
 use Rattle.std.proofs.Common.{◌≡◌, ◌≤◌, ◌*◌, ◌-◌, drop, length}
 use Rattle.pr_story.specs.Scripts.{ByTime}
+use Rattle.pr_text.specs.Texts.{AreOfNodes}
 use Rattle.pr_top.specs.Carrying.{TellsCarried}
 use Rattle.pr_top.specs.Downs.{IsWithin, TellsTrueDowns}
 use Rattle.pr_top.proofs.Runs.{IsUnderWay}
@@ -8,6 +9,7 @@ use Rattle.pr_top.proofs.beside.Beside.commands.Given as goal
 abbrev pub invariant-loop-at : goal.invariant-loop-at
 invariant-loop-at g l = record {
   rises : g.K.Sink.faults l.fn.out ≤ g.K.Sink.faults l.out;
+  nodes : AreOfNodes l.script.decls.list l.clocks;
   within : l.at ≤ length l.list;
   made : g.W.Wires.made l.wires ≤ 64 * l.at;
   sound : g.W.Wires.sound l.wires ≡ g.W.Wires.sound l.fn.wires;

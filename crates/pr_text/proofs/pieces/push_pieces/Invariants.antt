@@ -1,0 +1,10 @@
+use Rattle.std.proofs.Common.{◌≡◌, ◌++◌, ◌≤◌, drop}
+use Rattle.pr_text.specs.Texts.{clocks, listed}
+use Rattle.pr_text.proofs.Loops.{list_behind}
+use Rattle.pr_text.proofs.pieces.push_pieces.Given as goal
+
+-- what is written, then what is still to be written, is all; and no more nodes than pieces were passed
+abbrev pub invariant-loop-piece : goal.invariant-loop-piece
+invariant-loop-piece l =
+    (l.text ++ list_behind l.some (clocks (drop l.piece-index l.fn.pieces) l.node l.fn.vector) ≡ l.fn.text ++ listed (clocks l.fn.pieces 0 l.fn.vector))
+    × (l.node ≤ l.piece-index)
