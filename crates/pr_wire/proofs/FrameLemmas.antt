@@ -6,7 +6,7 @@ use Rattle.std.proofs.lemmas.List.{take_at, drop_at, take-append-drop, length-ap
 use Rattle.pr_inval.specs.declared.msg.Msg.{Msg}
 use Rattle.pr_wire.specs.declared.format.Format.{Format}
 use Rattle.pr_wire.specs.declared.format.Format.TheVariants.{One, Two}
-use Rattle.pr_wire.specs.Frames.{HasNoFormat, IsBad, IsPartial, frame_of, said_length}
+use Rattle.pr_wire.specs.Frames.{HasNoFormat, IsBad, IsFrame, IsPartial, frame_of, said_length}
 use Rattle.pr_wire.specs.Fronts.{IsFramed, IsSpelled}
 use Rattle.pr_wire.specs.Messages.{HasSpelling}
 use Rattle.pr_wire.specs.Reading.{content_at, message_at}
@@ -121,6 +121,17 @@ a_message limit (b ∷ t) f len m fits h e =
       size = omega (arith, sized, h.said, length-spelling f m);
       all = h.all;
     }
+
+-- bytes that are just a frame have its head, and behind it what gives the message
+pub frame_has_head : (f : Format) (m : Msg) (bytes : List ℕ) → IsFrame f m bytes → 9 ≤ length bytes
+frame_has_head f m bytes is = omega (arith, ap length is.1, length-spelling f m)
+
+pub frame_gives : (f : Format) (m : Msg) (bytes behind : List ℕ) → IsFrame f m bytes → behind ≡ drop 9 bytes → message_at f behind ≡ Some m
+unfolding spelling
+frame_gives f m bytes behind is at =
+    let len = length (content f m) in
+    ap (message_at f) (at ∙ ap (λ (t : List ℕ). drop 9 t) is.1 ∙ drop_at (eight len) (content f m) 8 (length-eight len))
+    ∙ message_again f m is.0
 
 -- ---- laws
 

@@ -24,10 +24,10 @@ FramesAreApart = (f g : Format) (m n : Msg) (x y : List ℕ) → HasSpelling f m
 
 good : FramesAreGood → (feed : Fed) (m : Msg) → HoldsJust feed m → length feed.rest < 2 ^ 64 → ¬ IsBad feed.limit feed.rest × ¬ IsPartial feed.limit feed.rest
 good law feed m is fits =
-    let rest : feed.rest ≡ spelling Two m ++ [] = is.frame ∙ sym (append-nil (spelling Two m)) in
-    let size : length feed.rest ≡ length (spelling Two m) = ap (λ (t : List ℕ). length t) is.frame in
+    let rest : feed.rest ≡ spelling Two m ++ [] = is.frame.1 ∙ sym (append-nil (spelling Two m)) in
+    let size : length feed.rest ≡ length (spelling Two m) = ap (λ (t : List ℕ). length t) is.frame.1 in
     subst (λ (t : List ℕ). ¬ IsBad feed.limit t × ¬ IsPartial feed.limit t) (sym rest)
-    (law feed.limit Two m [] is.spelled (omega (arith, is.limit)) (omega (arith, is.limit, fits, size, content_fits m)))
+    (law feed.limit Two m [] is.frame.0 (omega (arith, is.limit)) (omega (arith, is.limit, fits, size, content_fits m)))
 
 pub never : FramesAreGood → (feed after : Fed) (m : Msg) (next : Next) → HoldsJust feed m → length feed.rest < 2 ^ 64 → HasAnswered feed after next → ((n : Msg) → next ≡ Message n → ⊥) → ⊥
 never law feed after m (Message n) is fits answer none = none n refl
@@ -38,4 +38,4 @@ pub same_message : FramesAreApart → (feed after : Fed) (m n : Msg) (next : Nex
 same_message law feed after m n next is answer was =
     let here : HasAnswered feed after (Message n) = subst (λ (x : Next). HasAnswered feed after x) was answer in
     let given = here.1 in
-    (law here.0 Two n m after.rest [] given.spelled is.spelled (sym given.front ∙ is.frame ∙ sym (append-nil (spelling Two m)))).1
+    (law here.0 Two n m after.rest [] given.spelled is.frame.0 (sym given.front ∙ is.frame.1 ∙ sym (append-nil (spelling Two m)))).1

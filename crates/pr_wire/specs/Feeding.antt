@@ -7,7 +7,7 @@ use Rattle.pr_wire.specs.declared.next.Next.{Next}
 use Rattle.pr_wire.specs.declared.next.Next.TheVariants.{Message, More, Bad}
 use Rattle.pr_wire.specs.Messages.{HasSpelling}
 use Rattle.pr_wire.specs.Spelling.{content, spelling}
-use Rattle.pr_wire.specs.Frames.{IsBad, IsPartial}
+use Rattle.pr_wire.specs.Frames.{IsBad, IsFrame, IsPartial}
 
 abbrev pub AreBytes : List ℕ → Type 0
 AreBytes bytes = (i : ℕ) → slice_index bytes i < 256
@@ -43,9 +43,8 @@ HasAnswered a b (Bad at) = (b ≡ a) × (at ≡ a.given) × IsBad a.limit a.rest
 
 -- the feed is one of any frame, and what it holds is just the frame of the message in format 2
 pub record HoldsJust (a : Fed) (m : Msg) : Type 0 where
-  pub spelled : HasSpelling Two m
   pub limit : a.limit ≡ 18446744073709551615
-  pub frame : a.rest ≡ spelling Two m
+  pub frame : IsFrame Two m a.rest
 
 -- ---- runs
 

@@ -2,6 +2,7 @@
 #![tactic(auto)]
 
 mod appending;
+mod decoding;
 mod encoding;
 mod fault;
 mod feed;
@@ -20,6 +21,7 @@ mod writing;
 pub use appending::{
     append_eight, append_four, append_name, append_set, append_stamp, append_vector,
 };
+pub use decoding::decode;
 pub use encoding::encode;
 pub use fault::Fault;
 pub use feed::Feed;

@@ -1,11 +1,13 @@
 // Tests of the wire.
 ghost use Rattle.pr_inval.specs.Messages.{IsMessage};
+ghost use Rattle.pr_wire.specs.Frames.{IsFrame};
+ghost use Rattle.pr_wire.specs.declared.format.Format.{Format};
 ghost use Rattle.std.specs.Prelude.{IfOk};
 
 mod fields;
 mod frames;
 
-use crate::{Feed, Next, encode, through_bytes};
+use crate::{Feed, Next, decode, encode, through_bytes};
 use pr_inval::{Bytes, Kind, Msg};
 use pr_stamps::Seq;
 use std::alloc::Global;
@@ -61,6 +63,7 @@ fn bad_at(feed: &mut Feed) -> Result<Option<u64>, Fail> {
 
 pub fn encoded(alloc: Global, msg: &Msg) -> Result<Bytes, Fail>
     requires { IsMessage msg.now }
+    ensures { IfOk result (λ out. IsFrame Format.Two msg.now out) }
 {
     let mut out = Seq::new(alloc);
     encode(msg, &mut out).ok().ok_or("no memory")?;
@@ -128,7 +131,8 @@ pub fn bad_with(alloc: Global, frame: &[u8], place: usize, byte: u8) -> Result<O
     bad_at(&mut feed)
 }
 
-fn encoded_again(alloc: Global, msg: &Msg) -> Result<Bytes, Fail>
+// The frame of the message that its frame gives.
+pub fn encoded_again(alloc: Global, msg: &Msg) -> Result<Bytes, Fail>
     requires { IsMessage msg.now }
 {
     let again = through_bytes(alloc, msg).ok().ok_or("no memory")?;
@@ -141,6 +145,25 @@ fn a_message_goes_through_its_bytes(rt: HostRuntime) -> Result<(), Fail> {
     pushed(&mut feed, &FRAME_1)?;
     let msg = next_message(&mut feed)?;
     let frame = encoded_again(rt.alloc(), &msg)?;
+    assert_eq!(rt; frame.as_slice(), FRAME_1_AGAIN.as_slice());
+    Ok(())
+}
+
+// The frame of the message that is decoded from the frame of this one.
+fn decoded_and_encoded(alloc: Global, msg: &Msg) -> Result<Bytes, Fail>
+    requires { IsMessage msg.now }
+{
+    let frame = encoded(alloc, msg)?;
+    let again = decode(alloc, frame.as_slice()).ok().ok_or("no memory")?;
+    encoded(alloc, &again)
+}
+
+#[test]
+fn a_frame_is_decoded(rt: HostRuntime) -> Result<(), Fail> {
+    let mut feed = Feed::new(rt.alloc(), 1000);
+    pushed(&mut feed, &FRAME_1)?;
+    let msg = next_message(&mut feed)?;
+    let frame = decoded_and_encoded(rt.alloc(), &msg)?;
     assert_eq!(rt; frame.as_slice(), FRAME_1_AGAIN.as_slice());
     Ok(())
 }

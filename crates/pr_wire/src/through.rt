@@ -1,38 +1,44 @@
 // A message goes through its bytes.
-ghost use Rattle.pr_wire.specs.Feeding.{HoldsJust};
+ghost use Rattle.pr_wire.specs.Feeding.{new_feed, pushed};
+ghost use Rattle.pr_wire.specs.Pieces.{rest_of};
 ghost use Rattle.pr_inval.specs.Messages.{IsMessage};
-ghost use Rattle.std.specs.Prelude.{◌≡◌, IfOk};
+ghost use Rattle.std.specs.Prelude.{◌≡◌, ◌<◌, ◌++◌, IfOk, length};
 
+use crate::decoding::decode;
 use crate::feed::Feed;
 use crate::pieces::Pieces;
 use pr_inval::Msg;
 use pr_stamps::NoMemory;
 use std::alloc::Global;
 
-const PIECE: usize = 1024;
+// Nearly every frame is shorter.
+const PIECE: usize = 512;
 
-/// The message that its own frame gives: the message is spelled into a feed (docs/WIRE.md), piece by piece, and decoded
-/// from there. It takes memory for the frame and for what is decoded, and time linear in the frame.
+/// The message that its own frame gives (docs/WIRE.md), in time linear in the frame. It takes memory for what is decoded,
+/// and for the frame where that has 512 bytes or more.
 pub fn through_bytes(alloc: Global, msg: &Msg) -> Result<Msg, NoMemory>
     requires { IsMessage msg.now }
     ensures { IfOk result (λ m. m ≡ msg.now) }
 {
-    fed(alloc, msg)?.only_message()
+    let mut pieces = Pieces::new(msg);
+    let mut piece = [0; PIECE];
+    let len = pieces.next(&mut piece);
+    if len < PIECE {
+        return decode(alloc, &piece[..len]);
+    }
+    fed(alloc, &mut piece, &mut pieces)?.only_message()
 }
 
-// A feed of the message's frame.
-fn fed(alloc: Global, msg: &Msg) -> Result<Feed, NoMemory>
-    requires { IsMessage msg.now }
-    ensures { IfOk result (λ feed. HoldsJust feed msg.now) }
+// A feed of the bytes in the piece, and of all that is left behind them, for which the piece is used again.
+fn fed(alloc: Global, piece: &mut [u8], pieces: &mut Pieces) -> Result<Feed, NoMemory>
+    requires { 0 < length piece.old }
+    ensures { IfOk result (λ feed. feed ≡ pushed (new_feed 18446744073709551615) (piece.old ++ rest_of pieces.old)) }
 {
-    let mut pieces = Pieces::new(msg);
     let mut feed = Feed::new(alloc, u64::MAX);
-    let mut piece = [0; PIECE];
-    loop {
-        let len = pieces.next(&mut piece);
-        if len == 0 {
-            return Ok(feed);
-        }
+    let mut len = piece.len();
+    while len > 0 {
         feed.push(&piece[..len])?;
+        len = pieces.next(piece);
     }
+    Ok(feed)
 }

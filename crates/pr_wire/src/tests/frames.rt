@@ -1,8 +1,8 @@
 // A table of frames in format 2.
 ghost use Rattle.pr_inval.specs.Messages.{IsMessage};
-ghost use Rattle.std.specs.Prelude.{◌≤◌, length};
+ghost use Rattle.std.specs.Prelude.{◌≤◌, IfOk, length};
 
-use crate::tests::{bad_with, encoded, is_more, next_message, pushed};
+use crate::tests::{bad_with, encoded, encoded_again, is_more, next_message, pushed};
 use crate::{Feed, Pieces};
 use pr_inval::Msg;
 use pr_stamps::MAX;
@@ -221,5 +221,39 @@ fn longer_bodies_are_bad(rt: HostRuntime) -> Result<(), Fail> {
     let parts: [&[u8]; 4] = [LONG_NAME, LAST_STAMP, &len, &body];
     let frame = frame(rt.alloc(), 4, (MAX, 0, MAX), &parts)?;
     assert_eq!(rt; bad_with(rt.alloc(), frame.as_slice(), 0, 2)?, Some(0));
+    Ok(())
+}
+
+// The message of a frame.
+fn message_of(alloc: Global, frame: &[u8]) -> Result<Msg, Fail>
+    ensures { IfOk result IsMessage }
+{
+    let mut feed = Feed::new(alloc, u64::MAX);
+    pushed(&mut feed, frame)?;
+    next_message(&mut feed)
+}
+
+// The frame of a body, which has so many bytes.
+fn body_frame(alloc: Global, len: usize) -> Result<Vec<u8>, Fail> {
+    let mut body = Vec::new(alloc);
+    body.resize(len.saturating_sub(49), 7)?;
+    let count = (body.len() as u64).to_be_bytes();
+    let parts: [&[u8]; 4] = [NAME_A, STAMP_1, &count, &body];
+    frame(alloc, 4, (1, 0, 1), &parts)
+}
+
+// Whether a message goes through its frame of so many bytes.
+fn goes_through(alloc: Global, len: usize) -> Result<bool, Fail> {
+    let frame = body_frame(alloc, len)?;
+    let msg = message_of(alloc, &frame)?;
+    let again = encoded_again(alloc, &msg)?;
+    Ok(frame.len() == len && again.as_slice() == frame.as_slice())
+}
+
+#[test]
+fn messages_of_a_piece_and_more_go_through_their_bytes(rt: HostRuntime) -> Result<(), Fail> {
+    for len in [511, 512, 513, 1024, 1025] {
+        assert!(rt; goes_through(rt.alloc(), len)?, "{len} bytes");
+    }
     Ok(())
 }
