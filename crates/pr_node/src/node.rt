@@ -289,14 +289,15 @@ impl Node {
         ensures spent { self.old.spent ≡ true → result ≡ Err faults.NoMemory }
     {
         let time = self.diary.begin(0)?;
-        let at = self.stores.log.vector();
+        let has = self.stores.log.vector();
         let _ = needs.at(0);
         let _ = name.bytes();
-        if !needs.le(at) {
-            self.diary.behind(time, caller, client, needs, at)?;
-            return Ok(Seen::Behind { has: *at });
+        if !needs.le(has) {
+            self.diary.behind(time, caller, client, needs, has)?;
+            return Ok(Seen::Behind { has: *has });
         }
         let (answered, kept) = replies(self.alloc, &answer(&self.stores, name))?;
+        let at = self.stores.log.vector();
         self.diary.answered(time, caller, client, name, kept, at)?;
         Ok(Seen::Reply(answered))
     }
