@@ -7,6 +7,9 @@ use Rattle.pr_names.proofs.Places.{between}
 pub joins : (a b c d v : ℕ) → a < b → c < d → c ≤ b → a ≤ d → between (min a c) (max b d) v ≡ (between a b v || between c d v)
 joins a b c d v ab cd cb ad = grind (arith, nat_tests)
 
+pub grows : (a b c d v : ℕ) → a < b → c < d → c ≤ b → a ≤ c → between a (max b d) v ≡ (between a b v || between c d v)
+grows a b c d v ab cd cb ac = grind (arith, nat_tests)
+
 pub shares : (a b c d v : ℕ) → between (max a c) (min b d) v ≡ (between a b v && between c d v)
 shares a b c d v = grind (arith, nat_tests)
 

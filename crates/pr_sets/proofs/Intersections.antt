@@ -5,12 +5,11 @@ use Rattle.pr_names.specs.Name.{IsName}
 use Rattle.pr_names.specs.Span.{Span, IsSpan, holds}
 use Rattle.pr_names.proofs.Place.{from_place, to_place}
 use Rattle.pr_names.proofs.Places.{span_some}
-use Rattle.pr_sets.specs.Ends.{shared_list}
 use Rattle.pr_sets.specs.Spans.{has, IsSet, IsIntersection}
 use Rattle.pr_sets.proofs.Apart.{Apart, apart_of, set_of}
 use Rattle.pr_sets.proofs.SpanEnds.{shared_has, shared_tells}
 use Rattle.pr_sets.proofs.Lists.{EndsBelow, apart_append, has_append}
-use Rattle.pr_sets.proofs.Parts.{shared_of, shared_with}
+use Rattle.pr_sets.proofs.Parts.{shared_list, shared_of, shared_with}
 
 both_or : (p q r : Bool) → ((p && q) || (p && r)) ≡ (p && (q || r))
 both_or true q r = refl

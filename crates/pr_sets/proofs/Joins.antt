@@ -1,18 +1,17 @@
 -- What a list that grows at its end keeps.
-use Rattle.std.proofs.Common.{◌≡◌, ℕ, ◌+◌, ◌≤◌, sym, ap, ◌∙◌, arith, inl, inr, List, [], ◌∷◌, ◌++◌}
-use Rattle.std.specs.Prelude.{◌||◌, Option, Some, None}
-use Rattle.std.specs.Option.{option_to_list}
+use Rattle.std.proofs.Common.{◌≡◌, ℕ, ◌+◌, ◌≤◌, Bool, true, false, refl, sym, ap, ◌∙◌, arith, inl, inr, List, [], ◌∷◌}
+use Rattle.std.specs.Prelude.{◌||◌}
 use Rattle.pr_names.specs.Name.{IsName}
+use Rattle.pr_names.specs.Bound.{bound_lt}
 use Rattle.pr_names.specs.Span.{Span, IsSpan, holds}
 use Rattle.pr_names.specs.declared.bound.Bound.TheVariants.{At}
 use Rattle.pr_names.proofs.Place.{from_place, to_place}
 use Rattle.pr_names.proofs.Places.{bound_lt_tells, span_some}
-use Rattle.pr_sets.specs.Ends.{joined}
-use Rattle.pr_sets.specs.Joining.{Joining, all_of, grown_onto, joined_onto, puts}
-use Rattle.pr_sets.specs.Spans.{has}
+use Rattle.pr_sets.specs.Joining.{grown, joined_onto, last_grown, puts}
+use Rattle.pr_sets.specs.Spans.{has, is_behind}
 use Rattle.pr_sets.proofs.Apart.{Apart}
-use Rattle.pr_sets.proofs.SpanEnds.{from_joined, joined_holds, joined_is}
-use Rattle.pr_sets.proofs.Lists.{or_assoc, or_none, has_append, EndsBelow, apart_append}
+use Rattle.pr_sets.proofs.SpanEnds.{grown_holds, grown_is}
+use Rattle.pr_sets.proofs.Lists.{either_tests, or_assoc, or_none}
 
 -- ---- intervals in the order of their starts
 
@@ -29,131 +28,84 @@ pub rising_of : (p : ℕ) (ss : List Span) → Apart p ss → Rising p ss
 rising_of p [] h = tt
 rising_of p (s ∷ ss) h = (h.0, h.1, rising_later (from_place s) (to_place s + 1) ss (omega (arith, span_some s h.1)) (rising_of (to_place s + 1) ss h.2))
 
--- ---- the last interval
+-- the intervals begin at this place or before
+abbrev pub BeginBy : ℕ → List Span → Type 0
+BeginBy p [] = Unit {0}
+BeginBy p (t ∷ ts) = (from_place t ≤ p) × BeginBy p ts
 
--- the last interval begins at this place or before
-abbrev pub BeginsBy : ℕ → Option Span → Type 0
-BeginsBy p None = Unit {0}
-BeginsBy p (Some t) = from_place t ≤ p
-
-begins_later : (p q : ℕ) (last : Option Span) → p ≤ q → BeginsBy p last → BeginsBy q last
-begins_later p q None le h = tt
-begins_later p q (Some t) le h = omega arith
-
--- nothing is done before there is a last interval
-abbrev pub Starts : List Span → Option Span → Type 0
-Starts done None = done ≡ []
-Starts done (Some t) = Unit {0}
-
-pub record IsJoining (j : Joining) : Type 0 where
-  pub apart : Apart 0 (all_of j)
-  pub starts : Starts j.done j.last
-
--- what lies behind the last interval of a list
-record Splits (p : ℕ) (ss : List Span) (t : Span) : Type 0 where
-  front : Apart p ss
-  ends : EndsBelow (from_place t) ss
-  last : IsSpan t
-  least : p ≤ from_place t
-
-apart_split : (p : ℕ) (ss : List Span) (t : Span) → Apart p (ss ++ t ∷ []) → Splits p ss t
-apart_split p [] t h = record { front = tt; ends = tt; last = h.1; least = h.0 }
-apart_split p (s ∷ ss) t h =
-    let more = apart_split (to_place s + 1) ss t h.2 in
-    record {
-      front = (h.0, h.1, more.front);
-      ends = (omega (arith, more.least), more.ends);
-      last = more.last;
-      least = omega (arith, more.least, h.0, span_some s h.1);
-    }
-
-ends_weaker : (p q : ℕ) (ss : List Span) → p ≤ q → EndsBelow p ss → EndsBelow q ss
-ends_weaker p q [] le h = tt
-ends_weaker p q (s ∷ ss) le h = (omega (arith, h.0), ends_weaker p q ss le h.1)
-
-ends_append : (p : ℕ) (ss ts : List Span) → EndsBelow p ss → EndsBelow p ts → EndsBelow p (ss ++ ts)
-ends_append p [] ts hs ht = ht
-ends_append p (s ∷ ss) ts hs ht = (hs.0, ends_append p ss ts hs.1 ht)
+begin_later : (p q : ℕ) (ts : List Span) → p ≤ q → BeginBy p ts → BeginBy q ts
+begin_later p q [] le h = tt
+begin_later p q (t ∷ ts) le h = (omega (arith, h.0), begin_later p q ts le h.1)
 
 -- ---- one interval more
 
-grown_keeps : (done : List Span) (last : Option Span) (s : Span) → Apart 0 (done ++ option_to_list last) → Starts done last → IsSpan s → BeginsBy (from_place s) last → IsJoining (grown_onto done last s)
-grown_keeps done None s set starts hs begins = rw starts (record { apart = (omega arith, hs, tt); starts = tt })
-grown_keeps done (Some t) s set starts hs begins =
-    let split = apart_split 0 done t set in
-    elim (bound_lt_tells t.hi (At s.lo) split.last.hi hs.lo) [
-      | inl g ↦ rw g.0 (record {
-        apart = apart_append 0 (from_place s) (done ++ t ∷ []) (s ∷ []) (omega arith) set
-            (ends_append (from_place s) done (t ∷ []) (ends_weaker (from_place t) (from_place s) done begins split.ends) (omega (arith, g.1), tt))
-            (omega arith, hs, tt);
-        starts = tt;
-      })
-      | inr g ↦ rw g.0 (record {
-        apart = apart_append 0 (from_place t) done (joined t s ∷ []) (omega arith) split.front split.ends
-            (omega (arith, from_joined t s split.last hs, begins), joined_is t s split.last hs, tt);
-        starts = tt;
-      })
-    ]
+-- only the last interval is looked at
+joined_more : (t u : Span) (ts : List Span) (s : Span) → joined_onto (t ∷ (u ∷ ts)) s ≡ t ∷ joined_onto (u ∷ ts) s
+unfolding is_behind last_grown
+joined_more t u ts s = elim (either_tests (is_behind (u ∷ ts) s)) [ inl e ↦ rw e refl | inr e ↦ rw e refl ]
 
-grown_begins : (done : List Span) (last : Option Span) (s : Span) → Apart 0 (done ++ option_to_list last) → IsSpan s → BeginsBy (from_place s) last → BeginsBy (from_place s) (grown_onto done last s).last
-grown_begins done None s set hs h = omega arith
-grown_begins done (Some t) s set hs h =
-    let split = apart_split 0 done t set in
-    elim (bound_lt_tells t.hi (At s.lo) split.last.hi hs.lo) [
-      | inl g ↦ rw g.0 (omega arith)
-      | inr g ↦ rw g.0 (omega (arith, from_joined t s split.last hs))
-    ]
+pub put_keeps : (p : ℕ) (ts : List Span) (s : Span) → Apart p ts → IsSpan s → BeginBy (from_place s) ts → p ≤ from_place s → Apart p (joined_onto ts s)
+unfolding is_behind last_grown
+put_keeps p [] s h hs begin le = (le, hs, tt)
+put_keeps p (t ∷ []) s h hs begin le = elim (bound_lt_tells t.hi (At s.lo) h.1.hi hs.lo) [
+  | inl g ↦ rw g.0 (h.0, h.1, (omega (arith, g.1), hs, tt))
+  | inr g ↦ rw g.0 (h.0, grown_is t s h.1 hs, tt)
+]
+put_keeps p (t ∷ (u ∷ ts)) s h hs begin le =
+    rw (joined_more t u ts s) (h.0, h.1, put_keeps (to_place t + 1) (u ∷ ts) s h.2 hs begin.1 (omega (arith, h.2.0, begin.1.0)))
 
-grown_names : (done : List Span) (last : Option Span) (s : Span) (x : List ℕ) → Apart 0 (done ++ option_to_list last) → Starts done last → IsSpan s → IsName x → BeginsBy (from_place s) last → has (all_of (grown_onto done last s)) x ≡ (has (done ++ option_to_list last) x || holds s x)
-grown_names done None s x set starts hs hx begins = rw starts (or_none (holds s x))
-grown_names done (Some t) s x set starts hs hx begins =
-    let split = apart_split 0 done t set in
-    elim (bound_lt_tells t.hi (At s.lo) split.last.hi hs.lo) [
-      | inl g ↦ rw g.0 (has_append (done ++ t ∷ []) (s ∷ []) x ∙ ap (λ b. has (done ++ t ∷ []) x || b) (or_none (holds s x)))
-      | inr g ↦ rw g.0 (
-          has_append done (joined t s ∷ []) x
-          ∙ ap (λ b. has done x || b) (or_none (holds (joined t s) x) ∙ joined_holds t s x split.last hs hx (omega (arith, g.1)) (omega (arith, begins, span_some s hs)))
-          ∙ sym (or_assoc (has done x) (holds t x) (holds s x))
-          ∙ ap (λ b. (has done x || b) || holds s x) (sym (or_none (holds t x)))
-          ∙ ap (λ b. b || holds s x) (sym (has_append done (t ∷ []) x)))
-    ]
+pub put_begins : (ts : List Span) (s : Span) → BeginBy (from_place s) ts → BeginBy (from_place s) (joined_onto ts s)
+unfolding is_behind last_grown
+put_begins [] s begin = (omega arith, tt)
+put_begins (t ∷ []) s begin = elim (either_tests (bound_lt t.hi (At s.lo))) [ inl e ↦ rw e (begin.0, (omega arith, tt)) | inr e ↦ rw e (begin.0, tt) ]
+put_begins (t ∷ (u ∷ ts)) s begin = rw (joined_more t u ts s) (begin.0, put_begins (u ∷ ts) s begin.1)
 
-pub put_keeps : (j : Joining) (s : Span) → IsJoining j → IsSpan s → BeginsBy (from_place s) j.last → IsJoining (joined_onto j s)
-put_keeps j s h hs begins = grown_keeps j.done j.last s h.apart h.starts hs begins
+or_last : (p q : Bool) → (p || (q || false)) ≡ ((p || false) || q)
+or_last true q = refl
+or_last false q = or_none q
 
-pub put_begins : (j : Joining) (s : Span) → IsJoining j → IsSpan s → BeginsBy (from_place s) j.last → BeginsBy (from_place s) (joined_onto j s).last
-put_begins j s h hs begins = grown_begins j.done j.last s h.apart hs begins
-
-pub put_names : (j : Joining) (s : Span) (x : List ℕ) → IsJoining j → IsSpan s → IsName x → BeginsBy (from_place s) j.last → has (all_of (joined_onto j s)) x ≡ (has (all_of j) x || holds s x)
-put_names j s x h hs hx begins = grown_names j.done j.last s x h.apart h.starts hs hx begins
+pub put_names : (p : ℕ) (ts : List Span) (s : Span) (x : List ℕ) → Apart p ts → IsSpan s → IsName x → BeginBy (from_place s) ts → has (joined_onto ts s) x ≡ (has ts x || holds s x)
+unfolding is_behind last_grown
+put_names p [] s x h hs hx begin = or_none (holds s x)
+put_names p (t ∷ []) s x h hs hx begin = elim (bound_lt_tells t.hi (At s.lo) h.1.hi hs.lo) [
+  | inl g ↦ rw g.0 (or_last (holds t x) (holds s x))
+  | inr g ↦ rw g.0 (
+      or_none (holds (grown t s) x)
+      ∙ grown_holds t s x h.1 hs hx begin.0 (omega (arith, g.1))
+      ∙ ap (λ b. b || holds s x) (sym (or_none (holds t x))))
+]
+put_names p (t ∷ (u ∷ ts)) s x h hs hx begin =
+    ap (λ us. has us x) (joined_more t u ts s)
+    ∙ ap (λ b. holds t x || b) (put_names (to_place t + 1) (u ∷ ts) s x h.2 hs hx begin.1)
+    ∙ sym (or_assoc (holds t x) (has (u ∷ ts) x) (holds s x))
 
 -- ---- many more
 
--- a list that grows is ready for intervals that begin behind its last one
-pub record Ready (j : Joining) (ss : List Span) : Type 0 where
+-- a list that grows is ready for intervals that begin no earlier than its own
+pub record Ready (ts ss : List Span) : Type 0 where
   pub at : ℕ
-  pub begins : BeginsBy at j.last
+  pub begin : BeginBy at ts
   pub rise : Rising at ss
 
-pub ready_first : (j : Joining) (s : Span) (ss : List Span) → Ready j (s ∷ ss) → BeginsBy (from_place s) j.last
-ready_first j s ss r = begins_later r.at (from_place s) j.last r.rise.0 r.begins
+pub ready_first : (ts : List Span) (s : Span) (ss : List Span) → Ready ts (s ∷ ss) → BeginBy (from_place s) ts
+ready_first ts s ss r = begin_later r.at (from_place s) ts r.rise.0 r.begin
 
-pub ready_next : (j : Joining) (s : Span) (ss : List Span) → IsJoining j → Ready j (s ∷ ss) → Ready (joined_onto j s) ss
-ready_next j s ss h r = record {
+pub ready_next : (ts : List Span) (s : Span) (ss : List Span) → Ready ts (s ∷ ss) → Ready (joined_onto ts s) ss
+ready_next ts s ss r = record {
   at = from_place s;
-  begins = put_begins j s h r.rise.1 (ready_first j s ss r);
+  begin = put_begins ts s (ready_first ts s ss r);
   rise = r.rise.2;
 }
 
-pub puts_keep : (j : Joining) (ss : List Span) → IsJoining j → Ready j ss → IsJoining (puts j ss)
+pub puts_keep : (ts ss : List Span) → Apart 0 ts → Ready ts ss → Apart 0 (puts ts ss)
 unfolding puts
-puts_keep j [] hj r = hj
-puts_keep j (s ∷ ss) hj r = puts_keep (joined_onto j s) ss (put_keeps j s hj r.rise.1 (ready_first j s ss r)) (ready_next j s ss hj r)
+puts_keep ts [] h r = h
+puts_keep ts (s ∷ ss) h r = puts_keep (joined_onto ts s) ss (put_keeps 0 ts s h r.rise.1 (ready_first ts s ss r) (omega arith)) (ready_next ts s ss r)
 
-pub puts_names : (j : Joining) (ss : List Span) (x : List ℕ) → IsJoining j → Ready j ss → IsName x → has (all_of (puts j ss)) x ≡ (has (all_of j) x || has ss x)
+pub puts_names : (ts ss : List Span) (x : List ℕ) → Apart 0 ts → Ready ts ss → IsName x → has (puts ts ss) x ≡ (has ts x || has ss x)
 unfolding puts
-puts_names j [] x hj r hx = sym (or_none (has (all_of j) x))
-puts_names j (s ∷ ss) x hj r hx =
-    puts_names (joined_onto j s) ss x (put_keeps j s hj r.rise.1 (ready_first j s ss r)) (ready_next j s ss hj r) hx
-    ∙ ap (λ b. b || has ss x) (put_names j s x hj r.rise.1 hx (ready_first j s ss r))
-    ∙ or_assoc (has (all_of j) x) (holds s x) (has ss x)
+puts_names ts [] x h r hx = sym (or_none (has ts x))
+puts_names ts (s ∷ ss) x h r hx =
+    puts_names (joined_onto ts s) ss x (put_keeps 0 ts s h r.rise.1 (ready_first ts s ss r) (omega arith)) (ready_next ts s ss r) hx
+    ∙ ap (λ b. b || has ss x) (put_names 0 ts s x h r.rise.1 hx (ready_first ts s ss r))
+    ∙ or_assoc (has ts x) (holds s x) (has ss x)

@@ -7,12 +7,11 @@ use Rattle.pr_names.specs.Span.{Overlap, Span, IsSpan, holds}
 use Rattle.pr_names.proofs.Overlaps.{overlap_of}
 use Rattle.pr_names.proofs.Place.{place, from_place, to_place}
 use Rattle.pr_names.proofs.Places.{bound_most, holds_tells, span_some}
-use Rattle.pr_sets.specs.Ends.{shared_list}
 use Rattle.pr_sets.specs.Spans.{has, IsSet, Meet, Within}
 use Rattle.pr_sets.proofs.Apart.{Apart, apart_of, drop_apart}
 use Rattle.pr_sets.proofs.SpanEnds.{shared_tells}
 use Rattle.pr_sets.proofs.Intersections.{shared_is}
-use Rattle.pr_sets.proofs.Parts.{shared_of}
+use Rattle.pr_sets.proofs.Parts.{shared_list, shared_of}
 use Rattle.pr_sets.proofs.Same.{has_first, has_from, holds_at, holds_not, is_reached, none_before}
 use Rattle.pr_sets.proofs.Turns.{drop_is, drop_past}
 

@@ -1,9 +1,17 @@
 -- What is left to find in the loops over intervals.
-use Rattle.std.specs.Prelude.{List, [], ◌∷◌, ◌++◌}
+use Rattle.std.specs.Prelude.{List, [], ◌∷◌, ◌++◌, cond}
+use Rattle.pr_names.specs.Bound.{bound_lt}
 use Rattle.pr_names.specs.Span.{Span}
 use Rattle.pr_names.specs.declared.bound.Bound.{Bound}
 use Rattle.pr_names.specs.declared.bound.Bound.TheVariants.{At, End}
-use Rattle.pr_sets.specs.Ends.{gap, shared_list}
+use Rattle.pr_sets.specs.Ends.{gap, greater_name, span_list}
+
+abbrev pub lesser_bound : Bound → Bound → Bound
+lesser_bound a b = cond (bound_lt b a) b a
+
+-- what two intervals share
+unfoldable pub shared_list : Span → Span → List Span
+shared_list s t = span_list (greater_name s.lo t.lo) (lesser_bound s.hi t.hi)
 
 -- what an interval shares with each of these
 unfoldable pub shared_with : Span → List Span → List Span

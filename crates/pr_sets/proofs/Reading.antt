@@ -1,6 +1,6 @@
 -- The turns of the loop that reads sets, and intervals put in order.
 use Rattle.std.proofs.Common.{◌≡◌, ℕ, suc, ◌+◌, ◌-◌, ◌<◌, ◌≤◌, ◌⊎◌, Bool, true, false, refl, sym, ap, ◌∙◌, subst, arith, inl, inr, List, [], ◌∷◌, ◌++◌, length, take, drop, length-drop, get_or}
-use Rattle.std.specs.Prelude.{◌==◌, not, nat_lt, cond, Some, None, Result, Ok, Err, IfOk, IfErr, All, count_by, ◌||◌}
+use Rattle.std.specs.Prelude.{◌==◌, not, nat_lt, cond, Some, None, Result, Ok, Err, IfErr, All, count_by, ◌||◌}
 use Rattle.std.specs.List.{position, position_or_len, onto_first, list_any}
 use Rattle.std.specs.List.Sorted.{IsPermutation, IsSortedByKey}
 use Rattle.std.specs.Cmp.Lexicographic.{slice_cmp}
@@ -18,14 +18,14 @@ use Rattle.pr_names.specs.Text.{interval_read}
 use Rattle.pr_names.specs.declared.fault.IntervalFault.{IntervalFault}
 use Rattle.pr_names.proofs.Place.{from_place}
 use Rattle.pr_names.proofs.Places.{lt_cmp, lt_tells}
-use Rattle.pr_sets.specs.Joining.{Joining, all_of, puts}
+use Rattle.pr_sets.specs.Joining.{puts}
 use Rattle.pr_sets.specs.Spans.{has, IsSet}
 use Rattle.pr_sets.specs.Text.{items, items_read, list_of, listed, set_read, with_item}
 use Rattle.pr_sets.specs.declared.fault.SetFault.{SetFault}
 use Rattle.pr_sets.specs.declared.fault.SetFault.TheVariants.{Item, NoMemory, TooMany}
 use Rattle.pr_sets.proofs.Adding.{Spans, list_is}
 use Rattle.pr_sets.proofs.Apart.{set_of}
-use Rattle.pr_sets.proofs.Joins.{IsJoining, Ready, Rising, puts_keep, puts_names}
+use Rattle.pr_sets.proofs.Joins.{Ready, Rising, puts_keep, puts_names}
 use Rattle.pr_sets.proofs.Same.{same_list}
 
 -- ---- items
@@ -133,27 +133,21 @@ rising_in_order s (t ∷ ts) h o =
     let le : from_place s ≤ from_place t = elim (lt_tells t.lo s.lo h.1.0.lo h.0.lo) [ inl g ↦ absurd (let f : name_lt t.lo s.lo ≡ false = o 0 1 s (omega arith) (omega arith) in cc) | inr g ↦ g.1 ] in
     (le, h.1.0, rising_in_order t ts h.1 (λ k i d e lt. o (suc k) (suc i) d (omega arith) (omega arith)))
 
-ready_in_order : (j : Joining) (ss : List Span) → j ≡ record { done = []; last = None } → Spans ss → InOrder ss → Ready j ss
-ready_in_order j [] e h o = record { at = 0; begins = rw e tt; rise = tt }
-ready_in_order j (s ∷ ss) e h o = record { at = 0; begins = rw e tt; rise = (omega arith, h.0, rising_in_order s ss h o) }
-
-none_joined : (j : Joining) → j ≡ record { done = []; last = None } → IsJoining j
-none_joined j e = rw e (record { apart = tt; starts = refl })
+ready_in_order : (ss : List Span) → Spans ss → InOrder ss → Ready [] ss
+ready_in_order [] h o = record { at = 0; begin = tt; rise = tt }
+ready_in_order (s ∷ ss) h o = record { at = 0; begin = tt; rise = (omega arith, h.0, rising_in_order s ss h o) }
 
 -- intervals in order, joined where they overlap or touch, are the one list of all their names
-pub joined_in_order : (parts ordered set : List Span) (j k : Joining) → All IsSpan parts → IsPermutation parts ordered → InOrder ordered → j ≡ record { done = []; last = None } → k ≡ puts j ordered → set ≡ all_of k → (set ≡ list_of parts) × IsSet set
-joined_in_order parts ordered set j k all moved o ej ek es =
+pub joined_in_order : (parts ordered set : List Span) → All IsSpan parts → IsPermutation parts ordered → InOrder ordered → set ≡ puts [] ordered → (set ≡ list_of parts) × IsSet set
+joined_in_order parts ordered set all moved o is =
     let spans = spans_of ordered (All-permutation IsSpan parts ordered moved all) in
-    let ready = ready_in_order j ordered ej spans o in
-    let keeps = none_joined j ej in
-    let is : set ≡ all_of (puts j ordered) = es ∙ ap all_of ek in
+    let ready = ready_in_order ordered spans o in
     let P : List Span → Type 0 = λ us. IsSet us in
-    let is_set : IsSet set = subst P (sym is) (set_of 0 (all_of (puts j ordered)) (puts_keep j ordered keeps ready).apart) in
+    let is_set : IsSet set = subst P (sym is) (set_of 0 (puts [] ordered) (puts_keep [] ordered tt ready)) in
     let whole = list_is parts (spans_of parts all) in (
       same_list set (list_of parts) is_set whole.set (λ x hx.
           ap (λ us. has us x) is
-          ∙ puts_names j ordered x keeps ready hx
-          ∙ ap (λ i. has (all_of i) x || has ordered x) ej
+          ∙ puts_names [] ordered x tt ready hx
           ∙ sym (same_reordered parts ordered x moved)
           ∙ sym (whole.names x hx)),
       is_set,
@@ -165,14 +159,6 @@ in_order_of ss h k i d e lt =
     lt_cmp (get_or ss i d).lo (get_or ss k d).lo
     ∙ ap (λ n. is_lt (slice_cmp nat_cmp (get_or ss n d).lo (get_or ss k d).lo)) e
     ∙ h k d (omega arith) (omega arith)
-
-pub listed_list : {E : Type 0} (parts ordered : List Span) (r : Result (List Span) E) (j k : Joining) → All IsSpan parts → IsPermutation parts ordered → InOrder ordered → j ≡ record { done = []; last = None } → k ≡ puts j ordered → IfOk r (λ set. set ≡ all_of k) → IfOk r (λ set. set ≡ list_of parts)
-listed_list parts ordered (Ok set) j k all moved o ej ek es = (joined_in_order parts ordered set j k all moved o ej ek es).0
-listed_list parts ordered (Err e) j k all moved o ej ek es = tt
-
-pub listed_set : {E : Type 0} (parts ordered : List Span) (r : Result (List Span) E) (j k : Joining) → All IsSpan parts → IsPermutation parts ordered → InOrder ordered → j ≡ record { done = []; last = None } → k ≡ puts j ordered → IfOk r (λ set. set ≡ all_of k) → IfOk r (λ set. IsSet set)
-listed_set parts ordered (Ok set) j k all moved o ej ek es = (joined_in_order parts ordered set j k all moved o ej ek es).1
-listed_set parts ordered (Err e) j k all moved o ej ek es = tt
 
 -- the whole text, from what its items give
 pub none_read : (bs : List ℕ) (most : ℕ) → bytes_eq bs (126 ∷ []) ≡ true → set_read bs most ≡ Ok []

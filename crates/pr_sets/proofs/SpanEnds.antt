@@ -1,17 +1,20 @@
 -- Intervals that are joined, shared and made.
-use Rattle.std.proofs.Common.{◌≡◌, ℕ, ◌≤◌, ◌⊎◌, false, refl, sym, ap, ◌∙◌, subst, arith, inl, inr, List, [], ◌∷◌}
+use Rattle.std.proofs.Common.{◌≡◌, ℕ, ◌≤◌, ◌⊎◌, false, true, refl, sym, ap, ◌∙◌, subst, arith, inl, inr, List, [], ◌∷◌}
 use Rattle.std.specs.Prelude.{◌||◌, ◌&&◌, min, max, Option, Some, None, IfSome, IsTrue, is_some}
 use Rattle.std.specs.Option.{option_to_list}
 use Rattle.pr_names.specs.Name.{IsName}
-use Rattle.pr_names.specs.Bound.{IsBound, is_under}
+use Rattle.pr_names.specs.Bound.{IsBound, bound_lt, is_under}
+use Rattle.pr_names.specs.Order.{name_lt}
 use Rattle.pr_names.specs.Span.{Span, IsSpan, holds}
 use Rattle.pr_names.specs.declared.bound.Bound.{Bound}
 use Rattle.pr_names.proofs.Place.{place, bound_place, from_place, to_place}
-use Rattle.pr_names.proofs.Places.{between, between_tells, bound_lt_tells, holds_is, lt_tells, span_of, span_some, under_tells}
-use Rattle.pr_sets.specs.Ends.{greater_bound, greater_name, joined, lesser_bound, lesser_name, shared_list, span_list}
+use Rattle.pr_names.proofs.Places.{between, between_tells, bound_lt_places, bound_lt_tells, holds_is, lt_tells, places_under, same_place, span_of, span_some, under_tells}
+use Rattle.pr_sets.specs.Ends.{greater_bound, greater_name, joined, later_part, lesser_name, span_list}
+use Rattle.pr_sets.specs.Joining.{grown}
 use Rattle.pr_sets.specs.Spans.{has}
-use Rattle.pr_sets.proofs.Between.{joins, shares}
+use Rattle.pr_sets.proofs.Between.{grows, joins, shares}
 use Rattle.pr_sets.proofs.Lists.{or_none}
+use Rattle.pr_sets.proofs.Parts.{lesser_bound, shared_list}
 
 pub lesser_name_place : (a b : List ℕ) → IsName a → IsName b → place (lesser_name a b) ≡ min (place a) (place b)
 lesser_name_place a b ha hb = elim (lt_tells b a hb ha) [ inl g ↦ rw g.0 (omega (arith, g.1)) | inr g ↦ rw g.0 (omega (arith, g.1)) ]
@@ -69,9 +72,24 @@ joined_holds s t x hs ht hx st ts =
     ∙ ap (λ b. b || between (from_place t) (to_place t) (place x)) (sym (holds_is s x hs hx))
     ∙ ap (λ b. holds s x || b) (sym (holds_is t x ht hx))
 
-pub joined_some : (s t : Span) → IsSpan s → IsSpan t → IsTrue (is_under (lesser_name s.lo t.lo) (greater_bound s.hi t.hi))
-unfolding joined
-joined_some s t hs ht = (joined_is s t hs ht).some
+-- ---- grown
+
+grown_to : (t s : Span) → IsSpan t → IsSpan s → to_place (grown t s) ≡ max (to_place t) (to_place s)
+grown_to t s ht hs = elim (bound_lt_tells t.hi s.hi ht.hi hs.hi) [ inl g ↦ rw g.0 (omega (arith, g.1)) | inr g ↦ rw g.0 (omega (arith, g.1)) ]
+
+grown_hi : (t s : Span) → IsSpan t → IsSpan s → IsBound (grown t s).hi
+grown_hi t s ht hs = elim (bound_lt_tells t.hi s.hi ht.hi hs.hi) [ inl g ↦ rw g.0 hs.hi | inr g ↦ rw g.0 ht.hi ]
+
+pub grown_is : (t s : Span) → IsSpan t → IsSpan s → IsSpan (grown t s)
+grown_is t s ht hs = span_of (grown t s) ht.lo (grown_hi t s ht hs) (omega (arith, grown_to t s ht hs, span_some t ht))
+
+pub grown_holds : (t s : Span) (x : List ℕ) → IsSpan t → IsSpan s → IsName x → from_place t ≤ from_place s → from_place s ≤ to_place t → holds (grown t s) x ≡ (holds t x || holds s x)
+grown_holds t s x ht hs hx le st =
+    holds_is (grown t s) x (grown_is t s ht hs) hx
+    ∙ ap (λ n. between (from_place t) n (place x)) (grown_to t s ht hs)
+    ∙ grows (from_place t) (to_place t) (from_place s) (to_place s) (place x) (span_some t ht) (span_some s hs) st le
+    ∙ ap (λ b. b || between (from_place s) (to_place s) (place x)) (sym (holds_is t x ht hx))
+    ∙ ap (λ b. holds t x || b) (sym (holds_is s x hs hx))
 
 -- ---- made of two ends
 
@@ -96,7 +114,35 @@ unfolding span_list
 made_list lo hi None e h = rw (← e) refl
 made_list lo hi (Some t) e h = rw (← e) (ap (λ u. u ∷ []) h)
 
+-- what ends later than an interval ends behind its start
+pub later_under : (l s : Span) → IsSpan l → IsSpan s → bound_lt l.hi s.hi ≡ true → IsTrue (is_under l.lo s.hi)
+later_under l s hl hs lt = places_under l.lo s.hi hl.lo hs.hi (omega (arith, span_some l hl, bound_lt_places l.hi s.hi hl.hi hs.hi lt))
+
+-- what an interval has from a name within or behind it on, and from one before it
+pub later_cut : (s : Span) (n : List ℕ) (r : Option Span) → name_lt s.lo n ≡ true → option_to_list r ≡ span_list n s.hi → option_to_list r ≡ later_part s n
+unfolding later_part
+later_cut s n r lt e = rw lt e
+
+pub later_whole : (s : Span) (n : List ℕ) → IsSpan s → name_lt s.lo n ≡ false → s ∷ [] ≡ later_part s n
+unfolding later_part span_list
+later_whole s n hs le = rw (le, hs.some) refl
+
 -- ---- shared
+
+same_greater : (a b : List ℕ) → IsName a → IsName b → greater_name a b ≡ greater_name b a
+same_greater a b ha hb = elim (lt_tells b a hb ha) [
+  | inl g ↦ elim (lt_tells a b ha hb) [ inl f ↦ absurd (omega (arith, g.1, f.1)) | inr f ↦ rw (g.0, f.0) refl ]
+  | inr g ↦ elim (lt_tells a b ha hb) [ inl f ↦ rw (g.0, f.0) refl | inr f ↦ rw (g.0, f.0) (same_place b a hb ha (omega (arith, g.1, f.1))) ]
+]
+
+-- the one that ends first shares what it has from the other's start on
+pub right_shared : (s t : Span) → bound_lt t.hi s.hi ≡ true → later_part t s.lo ≡ shared_list s t
+unfolding later_part shared_list
+right_shared s t lt = rw lt refl
+
+pub left_shared : (s t : Span) → IsSpan s → IsSpan t → bound_lt t.hi s.hi ≡ false → later_part s t.lo ≡ shared_list s t
+unfolding later_part shared_list
+left_shared s t hs ht le = rw le (ap (λ n. span_list n s.hi) (same_greater t.lo s.lo ht.lo hs.lo))
 
 -- what two intervals share, or that they share nothing
 pub record Shares (s t : Span) (u : Span) : Type 0 where

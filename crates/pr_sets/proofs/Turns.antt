@@ -7,11 +7,11 @@ use Rattle.pr_names.specs.Span.{Span}
 use Rattle.pr_names.specs.declared.bound.Bound.{Bound}
 use Rattle.pr_names.specs.declared.bound.Bound.TheVariants.{At, End}
 use Rattle.pr_names.proofs.Place.{to_place}
-use Rattle.pr_sets.specs.Ends.{gap, shared_list}
+use Rattle.pr_sets.specs.Ends.{gap}
 use Rattle.pr_sets.specs.Spans.{IsSet}
 use Rattle.pr_sets.proofs.Apart.{Apart, apart_of, drop_apart}
 use Rattle.pr_sets.proofs.Intersections.{left_done, right_done}
-use Rattle.pr_sets.proofs.Parts.{gaps_from, shared_of, shared_with}
+use Rattle.pr_sets.proofs.Parts.{gaps_from, shared_list, shared_of, shared_with}
 
 pub drop_is : (ss : List Span) (i : ℕ) (s : Span) → i < length ss → s ≡ get_or ss i s → drop i ss ≡ s ∷ drop (i + 1) ss
 drop_is ss i s lt is =

@@ -12,9 +12,6 @@ lesser_name a b = cond (name_lt b a) b a
 abbrev pub greater_name : List ℕ → List ℕ → List ℕ
 greater_name a b = cond (name_lt b a) a b
 
-abbrev pub lesser_bound : Bound → Bound → Bound
-lesser_bound a b = cond (bound_lt b a) b a
-
 abbrev pub greater_bound : Bound → Bound → Bound
 greater_bound a b = cond (bound_lt b a) a b
 
@@ -26,9 +23,9 @@ joined s t = record { lo = lesser_name s.lo t.lo; hi = greater_bound s.hi t.hi }
 unfoldable pub span_list : List ℕ → Bound → List Span
 span_list lo hi = cond (is_under lo hi) (record { lo = lo; hi = hi } ∷ []) []
 
--- what two intervals share
-unfoldable pub shared_list : Span → Span → List Span
-shared_list s t = span_list (greater_name s.lo t.lo) (lesser_bound s.hi t.hi)
+-- what an interval has from a name on
+unfoldable pub later_part : Span → List ℕ → List Span
+later_part s n = span_list (greater_name n s.lo) s.hi
 
 -- the names from one bound up to another
 unfoldable pub gap : Bound → Bound → List Span

@@ -13,8 +13,8 @@ pub fn within(a: &[Interval], b: &[Interval]) -> bool
     let mut i = 0;
     let mut j = 0;
     while i < a.len() && j < b.len() {
-        let left = a[i];
-        let right = b[j];
+        let left = &a[i];
+        let right = &b[j];
         if right.hi().is_below(&left.hi()) {
             j += 1;
         } else if left.lo().is_below(&right.lo()) {

@@ -1,35 +1,11 @@
 // Intervals made of the ends of others.
-ghost use Rattle.pr_names.specs.Bound.{bound_lt};
-ghost use Rattle.pr_names.specs.declared.bound.Bound.TheVariants.{At};
-ghost use Rattle.pr_sets.specs.Ends.{lesser_name, greater_name, lesser_bound, greater_bound, joined, gap, shared_list};
-ghost use Rattle.std.specs.Prelude.{◌≡◌};
+ghost use Rattle.pr_names.specs.Bound.{is_under};
+ghost use Rattle.pr_sets.specs.Ends.{gap, later_part};
+ghost use Rattle.pr_sets.specs.Spans.{is_behind};
 ghost use Rattle.std.specs.Option.{option_to_list};
+ghost use Rattle.std.specs.Prelude.{◌≡◌, IsTrue};
 
 use pr_names::{Bound, Interval, Name};
-
-fn lesser_name(a: Name, b: Name) -> Name
-    ensures { result ≡ lesser_name a b }
-{
-    if b.is_below(&a) { b } else { a }
-}
-
-fn greater_name(a: Name, b: Name) -> Name
-    ensures { result ≡ greater_name a b }
-{
-    if b.is_below(&a) { a } else { b }
-}
-
-fn lesser_bound(a: Bound, b: Bound) -> Bound
-    ensures { result ≡ lesser_bound a b }
-{
-    if b.is_below(&a) { b } else { a }
-}
-
-fn greater_bound(a: Bound, b: Bound) -> Bound
-    ensures { result ≡ greater_bound a b }
-{
-    if b.is_below(&a) { a } else { b }
-}
 
 /// The names from one bound up to another, if any.
 pub fn gap(from: Bound, to: Bound) -> Option<Interval>
@@ -41,23 +17,31 @@ pub fn gap(from: Bound, to: Bound) -> Option<Interval>
     }
 }
 
-/// What two intervals share, if anything.
-pub fn shared(s: &Interval, t: &Interval) -> Option<Interval>
-    ensures { option_to_list result ≡ shared_list s.now t.now }
+/// What an interval has from a name on, if anything.
+pub fn later_part(part: &Interval, from: &Name) -> Option<Interval>
+    ensures { option_to_list result ≡ later_part part.now from.now }
 {
-    Interval::new(greater_name(s.lo(), t.lo()), lesser_bound(s.hi(), t.hi()))
+    if part.lo().is_below(from) {
+        Interval::new(*from, part.hi())
+    } else {
+        Some(*part)
+    }
 }
 
-/// Two intervals that overlap or touch, as one.
-pub fn joined(s: &Interval, t: &Interval) -> Interval
-    ensures { result ≡ joined s.now t.now }
+/// The interval with another end.
+pub fn up_to(part: &Interval, hi: Bound) -> Interval
+    requires { IsTrue (is_under part.now.lo hi) }
+    ensures { result ≡ record { lo = part.now.lo; hi = hi } }
 {
-    Interval::new(lesser_name(s.lo(), t.lo()), greater_bound(s.hi(), t.hi())).unwrap()
+    Interval::new(part.lo(), hi).unwrap()
 }
 
-/// Whether a name lies between an interval and a later one.
-pub fn are_apart(first: &Interval, next: &Interval) -> bool
-    ensures { result ≡ bound_lt first.now.hi (At next.now.lo) }
+/// Whether an interval can stand behind the last of these, with a name between, in constant time.
+pub fn is_behind(parts: &[Interval], part: &Interval) -> bool
+    ensures { result ≡ is_behind parts.now part.now }
 {
-    first.hi().is_below(&Bound::At(next.lo()))
+    if parts.is_empty() {
+        return true;
+    }
+    parts[parts.len() - 1].hi().is_below(&Bound::At(part.lo()))
 }

@@ -11,7 +11,8 @@ use std::alloc::Global;
 // For how many intervals a list that is not empty has room at first: as many as an interest set or a target has.
 const MOST: usize = 16;
 
-/// What the intervals share: the one that ends first is done with at each turn. They are fewer than those of both.
+/// What the intervals share: the one that ends first is done with at each turn, and shares with the other what it has
+/// from where that one begins. They are fewer than those of both.
 pub fn intersection(
     alloc: Global,
     a: &[Interval],
@@ -26,12 +27,13 @@ pub fn intersection(
     let mut i = 0;
     let mut j = 0;
     while i < a.len() && j < b.len() {
-        let left = a[i];
-        let right = b[j];
-        push(alloc, &mut both, ends::shared(&left, &right), first)?;
+        let left = &a[i];
+        let right = &b[j];
         if right.hi().is_below(&left.hi()) {
+            push(alloc, &mut both, ends::later_part(right, &left.lo()), first)?;
             j += 1;
         } else {
+            push(alloc, &mut both, ends::later_part(left, &right.lo()), first)?;
             i += 1;
         }
     }

@@ -1,8 +1,7 @@
 // A list of intervals that grows at its end, where the last may still grow.
-ghost use Rattle.pr_sets.specs.Joining.{joined_onto, all_of, puts};
-ghost use Rattle.std.specs.Prelude.{◌≡◌, [], OnOk, IfOk, None};
+ghost use Rattle.pr_sets.specs.Joining.{joined_onto, puts, last_grown};
+ghost use Rattle.std.specs.Prelude.{◌≡◌, ◌<◌, [], length, OnOk, IfOk};
 
-use crate::complement::push_some;
 use crate::ends;
 use pr_names::Interval;
 use pr_stamps::{NoMemory, Seq};
@@ -12,52 +11,44 @@ use std::marker::Model;
 /// Intervals that come in the order of their first names, joined where they touch.
 #[derive(Drop)]
 pub struct Joiner {
-    done: Seq<Interval>,
-    last: Option<Interval>,
+    parts: Vec<Interval>,
 }
 
 impl Model for Joiner {
-    ghost use Rattle.pr_sets.specs.Joining.{Joining};
+    ghost use Rattle.std.specs.Prelude.{List};
+    ghost use Rattle.pr_names.specs.Span.{Span};
 
-    ghost Value = { Joining };
+    ghost Value = { List Span };
 
-    ghost view = { λ j. record { done = j.done; last = j.last } };
+    ghost view = { λ j. j.parts.items };
 }
 
 impl Joiner {
     pub fn new(alloc: Global) -> Joiner
-        ensures { result ≡ record { done = []; last = None } }
+        ensures { result ≡ [] }
     {
         Joiner {
-            done: Seq::new(alloc),
-            last: None,
+            parts: Vec::new(alloc),
         }
     }
 
     /// None, with room for so many.
     pub fn with_room(alloc: Global, parts: usize) -> Result<Joiner, NoMemory>
-        ensures { IfOk result (λ j. j ≡ record { done = []; last = None }) }
+        ensures { IfOk result (λ j. j ≡ []) }
     {
-        let done = Seq::with_room(alloc, parts)?;
-        Ok(Joiner { done, last: None })
+        let parts = Vec::with_capacity(alloc, parts)?;
+        Ok(Joiner { parts })
     }
 
-    /// Adds an interval: the last one grows where it touches it.
-    pub fn put(&mut self, part: Interval) -> Result<(), NoMemory>
-        ensures { OnOk result (self.new ≡ joined_onto self.old part) }
+    /// Adds an interval: where it touches the last one, that one grows in place.
+    pub fn put(&mut self, part: &Interval) -> Result<(), NoMemory>
+        ensures { OnOk result (self.new ≡ joined_onto self.old part.now) }
     {
-        let grown = match self.last {
-            None => part,
-            Some(last) => {
-                if ends::are_apart(&last, &part) {
-                    self.done.push(last)?;
-                    part
-                } else {
-                    ends::joined(&last, &part)
-                }
-            }
-        };
-        self.last = Some(grown);
+        if ends::is_behind(&self.parts, part) {
+            self.parts.push(*part)?;
+        } else {
+            grow(&mut self.parts, part);
+        }
         Ok(())
     }
 
@@ -66,16 +57,26 @@ impl Joiner {
         ensures { OnOk result (self.new ≡ puts self.old parts.now) }
     {
         for part in parts {
-            self.put(*part)?;
+            self.put(part)?;
         }
         Ok(())
     }
 
-    pub fn finish(self) -> Result<Seq<Interval>, NoMemory>
-        ensures { IfOk result (λ parts. parts ≡ all_of self) }
+    pub fn finish(self) -> Seq<Interval>
+        ensures { result ≡ self }
     {
-        let mut parts = self.done;
-        push_some(&mut parts, self.last)?;
-        Ok(parts)
+        Seq::from_vec(self.parts)
+    }
+}
+
+// The last interval grows up to where the part ends; one that ends no earlier stays as it is.
+fn grow(parts: &mut [Interval], part: &Interval)
+    requires { 0 < length parts.old }
+    ensures { parts.new ≡ last_grown parts.old part.now }
+{
+    let at = parts.len() - 1;
+    let last = &parts[at];
+    if last.hi().is_below(&part.hi()) {
+        parts[at] = ends::up_to(last, part.hi());
     }
 }

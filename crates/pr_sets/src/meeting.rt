@@ -13,9 +13,9 @@ pub fn meets(a: &[Interval], b: &[Interval]) -> bool
     let mut i = 0;
     let mut j = 0;
     while i < a.len() && j < b.len() {
-        let left = a[i];
-        let right = b[j];
-        if left.meets(&right) {
+        let left = &a[i];
+        let right = &b[j];
+        if left.meets(right) {
             return true;
         }
         if right.hi().is_below(&left.hi()) {

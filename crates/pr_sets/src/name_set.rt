@@ -7,8 +7,8 @@ ghost use Rattle.std.specs.Prelude.{◌≡◌, ℕ, List, [], ◌∷◌, ◌++�
 use crate::complement::complement;
 use crate::intersection::intersection;
 use crate::union::union;
-use crate::{SetFault, containment, lookup, meeting, print, read};
-use pr_names::{Bound, Interval, Name};
+use crate::{SetFault, containment, ends, lookup, meeting, print, read};
+use pr_names::{Interval, Name};
 use pr_stamps::{NoMemory, Seq};
 use std::alloc::Global;
 use std::marker::Model;
@@ -65,12 +65,7 @@ impl NameSet {
     pub fn can_push(&self, part: &Interval) -> bool
         ensures { result ≡ is_behind self.now part.now }
     {
-        let parts = self.parts.as_slice();
-        if parts.is_empty() {
-            return true;
-        }
-        let last = parts[parts.len() - 1];
-        last.hi().is_below(&Bound::At(part.lo()))
+        ends::is_behind(self.parts.as_slice(), part)
     }
 
     /// Adds an interval behind the last one, in constant time where the list need not grow. A refusal leaves the set.

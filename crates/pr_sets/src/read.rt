@@ -77,5 +77,5 @@ fn listed(alloc: Global, mut parts: Vec<Interval>) -> Result<Seq<Interval>, NoMe
     );
     let mut joiner = Joiner::new(alloc);
     joiner.put_all(&parts)?;
-    joiner.finish()
+    Ok(joiner.finish())
 }

@@ -32,8 +32,8 @@ fn merged(alloc: Global, a: &[Interval], b: &[Interval]) -> Result<Seq<Interval>
     let mut i = 0;
     let mut j = 0;
     while i < a.len() && j < b.len() {
-        let left = a[i];
-        let right = b[j];
+        let left = &a[i];
+        let right = &b[j];
         if right.lo().is_below(&left.lo()) {
             joiner.put(right)?;
             j += 1;
@@ -44,5 +44,5 @@ fn merged(alloc: Global, a: &[Interval], b: &[Interval]) -> Result<Seq<Interval>
     }
     joiner.put_all(&a[i..])?;
     joiner.put_all(&b[j..])?;
-    joiner.finish()
+    Ok(joiner.finish())
 }

@@ -1,9 +1,11 @@
-use Rattle.std.proofs.Common.{◌≡◌, List, arith, subst, sym, ◌∙◌}
+use Rattle.std.proofs.Common.{◌≡◌, List, ap, arith, subst, sym, ◌∙◌}
 use Rattle.pr_names.specs.Span.{Span}
 use Rattle.pr_names.proofs.Places.{bound_le_places, bound_lt_places}
+use Rattle.pr_sets.specs.Ends.{later_part}
 use Rattle.pr_sets.specs.Spans.{IsIntersection}
 use Rattle.pr_sets.proofs.Intersections.{shared_is}
 use Rattle.pr_sets.proofs.Parts.{shared_of}
+use Rattle.pr_sets.proofs.SpanEnds.{left_shared, right_shared}
 use Rattle.pr_sets.proofs.Turns.{left_turn, right_turn, left_past, right_past}
 use Rattle.pr_sets.proofs.intersection.intersection.Goals as goal
 use Rattle.pr_sets.proofs.intersection.intersection.Goals.{then-loop-i-test+else-j-b, else-loop-i-test}
@@ -19,7 +21,7 @@ loop-i-preserved-then-is_below c = record {
     right = omega arith;
     left_is = c.index-a-i.is;
     right_is = c.index-b-j.is;
-    shares = c.shared.ensures;
+    shares = c.later_part.ensures ∙ ap (later_part c.index-b-j.result) c.lo.ensures.value ∙ right_shared c.index-a-i.result c.index-b-j.result (sym (rw (c.hi.ensures.value, c.hi-in-loop-i.ensures.value) at c.is_below.ensures) ∙ c.if-is_below.true);
     adds = c.in_ok-push.ensures;
     told = c.loop-i.invariant.told;
   }) (bound_lt_places c.index-b-j.result.hi c.index-a-i.result.hi c.hi.ensures.interval.hi c.hi-in-loop-i.ensures.interval.hi (sym (rw (c.hi.ensures.value, c.hi-in-loop-i.ensures.value) at c.is_below.ensures) ∙ c.if-is_below.true));
@@ -36,8 +38,8 @@ loop-i-preserved c = record {
     right = omega arith;
     left_is = c.index-a-i.is;
     right_is = c.index-b-j.is;
-    shares = c.shared.ensures;
-    adds = c.in_ok-push.ensures;
+    shares = c.later_part-else-is_below.ensures ∙ ap (later_part c.index-a-i.result) c.lo-else-is_below.ensures.value ∙ left_shared c.index-a-i.result c.index-b-j.result c.hi-in-loop-i.ensures.interval c.hi.ensures.interval (sym (rw (c.hi.ensures.value, c.hi-in-loop-i.ensures.value) at c.is_below.ensures) ∙ c.if-is_below.false);
+    adds = c.in_ok-push-2.ensures;
     told = c.loop-i.invariant.told;
   }) (bound_le_places c.index-b-j.result.hi c.index-a-i.result.hi c.hi.ensures.interval.hi c.hi-in-loop-i.ensures.interval.hi (sym (rw (c.hi.ensures.value, c.hi-in-loop-i.ensures.value) at c.is_below.ensures) ∙ c.if-is_below.false));
 }
