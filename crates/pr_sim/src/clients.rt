@@ -3,7 +3,7 @@ ghost use Rattle.pr_node.specs.Calls.{seen_after_done, seen_after_read};
 ghost use Rattle.pr_sim.specs.Commands.{ForEachRun, GivesOne};
 ghost use Rattle.pr_sim.specs.Running.{IsKept};
 ghost use Rattle.pr_story.specs.Commands.{ToMove, ToRead, ToWrite};
-ghost use Rattle.std.specs.Prelude.{◌≡◌, ◌<◌, ◌≤◌, [], false, true, length};
+ghost use Rattle.std.specs.Prelude.{◌≡◌, ◌<◌, ◌≤◌, ℕ, List, [], false, true, length, slice_index_or, slice_set};
 
 use crate::engine::{CALLER, Engine};
 use crate::slots::{number, vector};
@@ -39,16 +39,15 @@ impl Engine {
         ensures { ForEachRun self.old (λ d attached h. GivesOne (ToWrite client name.now body.now false) d attached h self.new result) }
     {
         let node = number(&self.homes, client);
-        let seen = vector(&self.seen, client);
         self.history.reserve(1)?;
         let Some(at) = &mut self.nodes[node as usize] else {
             unreachable!()
         };
         let place = at.journal().len();
-        let done = at.write(CALLER, client, name, body, &seen)?;
-        let now = at.vector();
+        let seen = vector(&self.seen, client);
+        let done = at.write(CALLER, client, name, body, seen)?;
         self.history.push((node, place));
-        self.seen[client as usize] = seen_then(&done, &seen, &now);
+        note_done(&mut self.seen, client, &done, &at.vector());
         Ok(())
     }
 
@@ -59,16 +58,15 @@ impl Engine {
         ensures { ForEachRun self.old (λ d attached h. GivesOne (ToWrite client name.now [] true) d attached h self.new result) }
     {
         let node = number(&self.homes, client);
-        let seen = vector(&self.seen, client);
         self.history.reserve(1)?;
         let Some(at) = &mut self.nodes[node as usize] else {
             unreachable!()
         };
         let place = at.journal().len();
-        let done = at.delete(CALLER, client, name, &seen)?;
-        let now = at.vector();
+        let seen = vector(&self.seen, client);
+        let done = at.delete(CALLER, client, name, seen)?;
         self.history.push((node, place));
-        self.seen[client as usize] = seen_then(&done, &seen, &now);
+        note_done(&mut self.seen, client, &done, &at.vector());
         Ok(())
     }
 
@@ -79,36 +77,37 @@ impl Engine {
         ensures { ForEachRun self.old (λ d attached h. GivesOne (ToRead client name.now) d attached h self.new result) }
     {
         let node = number(&self.homes, client);
-        let seen = vector(&self.seen, client);
         self.history.reserve(1)?;
         let Some(at) = &mut self.nodes[node as usize] else {
             unreachable!()
         };
         let place = at.journal().len();
-        let answered = at.read(CALLER, client, name, &seen)?;
-        let now = at.vector();
+        let seen = vector(&self.seen, client);
+        let answered = at.read(CALLER, client, name, seen)?;
         self.history.push((node, place));
-        self.seen[client as usize] = seen_now(&answered, &seen, &now);
+        note_read(&mut self.seen, client, &answered, &at.vector());
         Ok(())
     }
 }
 
-// What a client has seen after a write at a node with this vector.
-fn seen_then(done: &Done, before: &Vector, now: &Vector) -> Vector
-    ensures { result ≡ seen_after_done done.now before.now now.now }
+// What the client has seen after a write at a node with this vector.
+fn note_done(seen: &mut Vec<Vector>, client: u32, done: &Done, now: &Vector)
+    requires { client < length seen.old.items }
+    ensures { (d : List ℕ) → seen.new.items ≡ slice_set seen.old.items client (seen_after_done done.now (slice_index_or seen.old.items client d) now.now) }
 {
     match done {
-        Done::Stamp(_) => *now,
-        Done::Behind { .. } => *before,
+        Done::Stamp(_) => seen[client as usize] = *now,
+        Done::Behind { .. } => {}
     }
 }
 
 // The same after a read.
-fn seen_now(seen: &Seen, before: &Vector, now: &Vector) -> Vector
-    ensures { result ≡ seen_after_read seen.now before.now now.now }
+fn note_read(seen: &mut Vec<Vector>, client: u32, answered: &Seen, now: &Vector)
+    requires { client < length seen.old.items }
+    ensures { (d : List ℕ) → seen.new.items ≡ slice_set seen.old.items client (seen_after_read answered.now (slice_index_or seen.old.items client d) now.now) }
 {
-    match seen {
-        Seen::Reply(_) => *now,
-        Seen::Behind { .. } => *before,
+    match answered {
+        Seen::Reply(_) => seen[client as usize] = *now,
+        Seen::Behind { .. } => {}
     }
 }

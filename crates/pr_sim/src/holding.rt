@@ -62,7 +62,7 @@ impl Held for Engine {
     }
 
     fn client(&self, client: u32) -> Vector {
-        vector(&self.seen, client)
+        *vector(&self.seen, client)
     }
 
     fn reserve(&mut self, more: usize) -> Result<(), NoMemory> {

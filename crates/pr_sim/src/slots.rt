@@ -20,11 +20,11 @@ pub fn number(numbers: &Vec<u32>, at: u32) -> u32
     numbers[at as usize]
 }
 
-pub fn vector(vectors: &Vec<Vector>, at: u32) -> Vector
+pub fn vector(vectors: &Vec<Vector>, at: u32) -> &Vector
     requires { at < length vectors.now.items }
-    ensures { (d : List ℕ) → result ≡ slice_index_or vectors.now.items at d }
+    ensures { (d : List ℕ) → result.now ≡ slice_index_or vectors.now.items at d }
 {
-    vectors[at as usize]
+    &vectors[at as usize]
 }
 
 pub fn route(routes: &Vec<Route>, at: u32) -> Route

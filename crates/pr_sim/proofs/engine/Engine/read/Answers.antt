@@ -1,6 +1,7 @@
-use Rattle.std.proofs.Common.{◌<◌, [], ◌∷◌, ◌++◌, refl, sym, ◌∙◌, ap, subst, length, arith}
+use Rattle.std.proofs.Common.{◌<◌, [], ◌∷◌, ◌++◌, refl, sym, ◌∙◌, ap, subst, length, set, List, ℕ, arith}
 use Rattle.std.specs.Vec.{with_item}
 use Rattle.pr_vectors.specs.Vector.{zero_vector}
+use Rattle.pr_node.specs.Calls.{seen_after_read}
 use Rattle.pr_node.specs.Stored.{means}
 use Rattle.pr_story.specs.Commands.{ToRead}
 use Rattle.pr_story.specs.History.{current_vector, journal}
@@ -41,8 +42,9 @@ returns c d attached h k =
     let within = subst (λ i. i < length c.args.self.now.nodes.items) (sym c.number-node.ensures) (k.stands.clients.at c.args.client c.requires.client) in
     let was = stood _ _ _ _ within c.index_mut.ensures.value c.in-Some.is in
     let n = c.number-node.result in
-    let needs = c.vector-seen.result in
-    let f = record c.args.self.now { nodes = with_item c.args.self.now.nodes c.number-node.result (Some c.read.new.self); history = c.push.new.self; seen = with_item c.args.self.now.seen c.args.client c.seen_now.result } in
+    let needs = c.vector-seen.result.now in
+    let seen = seen_after_read c.in_ok-answered.answered needs c.vector.result in
+    let f = record c.args.self.now { nodes = with_item c.args.self.now.nodes c.number-node.result (Some c.read.new.self); history = c.push.new.self; seen = c.note_read.new.seen } in
     client_ends d attached h c.args.self.now f k n c.in-Some.at c.read.new.self c.len-place.result
     (record {
       within = within;
@@ -51,6 +53,6 @@ returns c d attached h k =
       place_is = c.len-place.ensures ∙ place_len c.journal.result.now.items c.in-Some.at.journal.items c.journal.ensures;
       noted = c.push.ensures.items ∙ ap (λ ps. ps ++ (n, c.len-place.result) ∷ []) c.reserve.ensures.items;
     }) 0
-    (ToRead c.args.client c.args.name.now) c.args.client c.seen_now.result needs _ refl refl refl refl refl refl c.requires.client c.number-node.ensures (c.vector-seen.ensures zero_vector) c.in_ok-answered.ensures.ok
+    (ToRead c.args.client c.args.name.now) c.args.client seen needs _ refl refl refl refl refl (c.note_read.ensures zero_vector ∙ sym (ap (λ (v : List ℕ). set c.args.self.now.seen.items c.args.client (seen_after_read c.in_ok-answered.answered v c.vector.result)) (c.vector-seen.ensures zero_vector))) c.requires.client c.number-node.ensures (c.vector-seen.ensures zero_vector) c.in_ok-answered.ensures.ok
     (λ entry is. seen_is_of c.args.client c.args.name.now n c.in_ok-answered.answered entry is)
-    (λ entry is own follows. c.seen_now.ensures ∙ read_seen_is (standing d.plan h) d.plan n (journal h n) needs c.vector-now.result c.args.client c.args.name.now c.in_ok-answered.answered entry is own (c.vector-now.ensures.value (c.in_ok-answered.ensures.ok (standing d.plan h)).works ∙ ap (λ j. current_vector j) follows))
+    (λ entry is own follows. read_seen_is (standing d.plan h) d.plan n (journal h n) needs c.vector.result c.args.client c.args.name.now c.in_ok-answered.answered entry is own (c.vector.ensures.value (c.in_ok-answered.ensures.ok (standing d.plan h)).works ∙ ap (λ j. current_vector j) follows))
