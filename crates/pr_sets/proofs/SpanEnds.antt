@@ -1,5 +1,5 @@
 -- Intervals that are joined, shared and made.
-use Rattle.std.proofs.Common.{◌≡◌, ℕ, ◌≤◌, ◌⊎◌, false, true, refl, sym, ap, ◌∙◌, subst, arith, inl, inr, List, [], ◌∷◌}
+use Rattle.std.proofs.Common.{◌≡◌, ℕ, ◌≤◌, ◌⊎◌, false, true, refl, sym, ap, ◌∙◌, arith, inl, inr, List, [], ◌∷◌}
 use Rattle.std.specs.Prelude.{◌||◌, ◌&&◌, min, max, Option, Some, None, IfSome, IsTrue, is_some}
 use Rattle.std.specs.Option.{option_to_list}
 use Rattle.pr_names.specs.Name.{IsName}
@@ -93,9 +93,6 @@ grown_holds t s x ht hs hx le st =
 
 -- ---- made of two ends
 
-pub unwrapped : (r : Option Span) (u s : Span) → r ≡ Some u → IfSome r (λ t. t ≡ s) → u ≡ s
-unwrapped r u s e h = let P : Option Span → Type 0 = λ o. IfSome o (λ t. t ≡ s) in subst P e h
-
 pub span_list_has : (lo : List ℕ) (hi : Bound) (x : List ℕ) → IsName lo → IsBound hi → IsName x → has (span_list lo hi) x ≡ between (place lo) (bound_place hi) (place x)
 unfolding span_list
 span_list_has lo hi x hl hh hx = elim (under_tells lo hi hl hh) [
@@ -122,6 +119,13 @@ later_under l s hl hs lt = places_under l.lo s.hi hl.lo hs.hi (omega (arith, spa
 pub later_cut : (s : Span) (n : List ℕ) (r : Option Span) → name_lt s.lo n ≡ true → option_to_list r ≡ span_list n s.hi → option_to_list r ≡ later_part s n
 unfolding later_part
 later_cut s n r lt e = rw lt e
+
+pub later_none : (s : Span) (n : List ℕ) → IsSpan s → IsName n → is_under n s.hi ≡ false → [] ≡ later_part s n
+unfolding later_part span_list
+later_none s n hs hn past = elim (lt_tells s.lo n hs.lo hn) [
+  | inl g ↦ rw (g.0, past) refl
+  | inr g ↦ elim (under_tells n s.hi hn hs.hi) [ inl f ↦ absurd (let e = f.0 in cc) | inr f ↦ absurd (omega (arith, f.1, g.1, span_some s hs)) ]
+]
 
 pub later_whole : (s : Span) (n : List ℕ) → IsSpan s → name_lt s.lo n ≡ false → s ∷ [] ≡ later_part s n
 unfolding later_part span_list

@@ -8,27 +8,42 @@ use pr_names::{Bound, Interval, Name};
 use pr_stamps::{NoMemory, Seq};
 use std::alloc::Global;
 
-/// What lies between the intervals.
+/// What lies between the intervals. There is at most one gap more than there are intervals.
 pub fn complement(alloc: Global, parts: &[Interval]) -> Result<Seq<Interval>, NoMemory>
     requires { IsSet parts.now }
     ensures { IfOk result (IsComplement parts.now) }
 {
+    let room = parts.len().saturating_add(1);
     let mut gaps = Seq::new(alloc);
     let mut from = Bound::At(Name::least());
     for part in parts {
-        push_some(&mut gaps, ends::gap(from, Bound::At(part.lo())))?;
+        push_some(
+            alloc,
+            &mut gaps,
+            ends::gap(from, Bound::At(part.lo())),
+            room,
+        )?;
         from = part.hi();
     }
-    push_some(&mut gaps, ends::gap(from, Bound::End))?;
+    push_some(alloc, &mut gaps, ends::gap(from, Bound::End), room)?;
     Ok(gaps)
 }
 
-/// Adds the interval, if there is one.
-pub fn push_some(list: &mut Seq<Interval>, part: Option<Interval>) -> Result<(), NoMemory>
+/// Adds the interval, if there is one. A list that has none first gets room for so many.
+#[inline]
+pub fn push_some(
+    alloc: Global,
+    list: &mut Seq<Interval>,
+    part: Option<Interval>,
+    room: usize,
+) -> Result<(), NoMemory>
     ensures { OnOk result (list.new ≡ list.old ++ option_to_list part) }
 {
-    if let Some(part) = part {
-        list.push(part)?;
+    let Some(part) = part else {
+        return Ok(());
+    };
+    if list.is_empty() {
+        *list = Seq::with_room(alloc, room)?;
     }
-    Ok(())
+    list.push(part)
 }

@@ -21,6 +21,10 @@ pub fn gap(from: Bound, to: Bound) -> Option<Interval>
 pub fn later_part(part: &Interval, from: &Name) -> Option<Interval>
     ensures { option_to_list result ≡ later_part part.now from.now }
 {
+    let _ = from.bytes();
+    if !part.hi().is_above(from) {
+        return None;
+    }
     if part.lo().is_below(from) {
         Interval::new(*from, part.hi())
     } else {

@@ -1,8 +1,8 @@
 // The intersection of two sets.
 ghost use Rattle.pr_sets.specs.Spans.{IsIntersection, IsSet};
-ghost use Rattle.std.specs.Option.{option_to_list};
-ghost use Rattle.std.specs.Prelude.{◌≡◌, ◌++◌, IfOk, OnOk};
+ghost use Rattle.std.specs.Prelude.{IfOk};
 
+use crate::complement::push_some;
 use crate::ends;
 use pr_names::Interval;
 use pr_stamps::{NoMemory, Seq};
@@ -22,7 +22,7 @@ pub fn intersection(
     requires b { IsSet b.now }
     ensures { IfOk result (IsIntersection a.now b.now) }
 {
-    let first = a.len().saturating_add(b.len()).saturating_sub(1).min(MOST);
+    let room = a.len().saturating_add(b.len()).saturating_sub(1).min(MOST);
     let mut both = Seq::new(alloc);
     let mut i = 0;
     let mut j = 0;
@@ -30,30 +30,12 @@ pub fn intersection(
         let left = &a[i];
         let right = &b[j];
         if right.hi().is_below(&left.hi()) {
-            push(alloc, &mut both, ends::later_part(right, &left.lo()), first)?;
+            push_some(alloc, &mut both, ends::later_part(right, &left.lo()), room)?;
             j += 1;
         } else {
-            push(alloc, &mut both, ends::later_part(left, &right.lo()), first)?;
+            push_some(alloc, &mut both, ends::later_part(left, &right.lo()), room)?;
             i += 1;
         }
     }
     Ok(both)
-}
-
-/// Adds the interval, if there is one. A list that has none first gets room for so many.
-fn push(
-    alloc: Global,
-    list: &mut Seq<Interval>,
-    part: Option<Interval>,
-    parts: usize,
-) -> Result<(), NoMemory>
-    ensures { OnOk result (list.new ≡ list.old ++ option_to_list part) }
-{
-    let Some(part) = part else {
-        return Ok(());
-    };
-    if list.is_empty() {
-        *list = Seq::with_room(alloc, parts)?;
-    }
-    list.push(part)
 }

@@ -22,7 +22,7 @@ loop-i-preserved-then-is_below c = record {
     left_is = c.index-a-i.is;
     right_is = c.index-b-j.is;
     shares = c.later_part.ensures ∙ ap (later_part c.index-b-j.result) c.lo.ensures.value ∙ right_shared c.index-a-i.result c.index-b-j.result (sym (rw (c.hi.ensures.value, c.hi-in-loop-i.ensures.value) at c.is_below.ensures) ∙ c.if-is_below.true);
-    adds = c.in_ok-push.ensures;
+    adds = c.in_ok-push_some.ensures;
     told = c.loop-i.invariant.told;
   }) (bound_lt_places c.index-b-j.result.hi c.index-a-i.result.hi c.hi.ensures.interval.hi c.hi-in-loop-i.ensures.interval.hi (sym (rw (c.hi.ensures.value, c.hi-in-loop-i.ensures.value) at c.is_below.ensures) ∙ c.if-is_below.true));
 }
@@ -39,7 +39,7 @@ loop-i-preserved c = record {
     left_is = c.index-a-i.is;
     right_is = c.index-b-j.is;
     shares = c.later_part-else-is_below.ensures ∙ ap (later_part c.index-a-i.result) c.lo-else-is_below.ensures.value ∙ left_shared c.index-a-i.result c.index-b-j.result c.hi-in-loop-i.ensures.interval c.hi.ensures.interval (sym (rw (c.hi.ensures.value, c.hi-in-loop-i.ensures.value) at c.is_below.ensures) ∙ c.if-is_below.false);
-    adds = c.in_ok-push-2.ensures;
+    adds = c.in_ok-push_some-2.ensures;
     told = c.loop-i.invariant.told;
   }) (bound_le_places c.index-b-j.result.hi c.index-a-i.result.hi c.hi.ensures.interval.hi c.hi-in-loop-i.ensures.interval.hi (sym (rw (c.hi.ensures.value, c.hi-in-loop-i.ensures.value) at c.is_below.ensures) ∙ c.if-is_below.false));
 }
