@@ -100,6 +100,17 @@ module _ (at n : ℕ) (piece bytes new after : List ℕ) (within : at ≤ length
       other_text _ _ (not_true _ test)
       (filled_part ∙ sym (append_cancel_left (take at piece) (take n (drop at piece)) (take n new) split) ∙ ap (λ (k : ℕ). take k (drop at piece)) (sym count))
 
+-- bytes behind others that stand at the front of a buffer
+pub filled_behind : (n : ℕ) (front back bytes new rest : List ℕ) → bytes ≡ front ++ back → take n new ≡ take n rest → take (length front + n) (put_mid (length front) (length bytes - length front) bytes new) ≡ take (length front + n) (front ++ rest)
+filled_behind n front back bytes new rest is same =
+    let at = length front in
+    let within : at ≤ length bytes = omega (arith, ap length is, length-append front back) in
+    filled_front at n [] bytes new (put_mid at (length bytes - at) bytes new) within (filled at bytes new within)
+    ∙ ap (λ (t : List ℕ). take at t ++ take n new) is
+    ∙ ap (λ (t : List ℕ). t ++ take n new) (starts_with front back)
+    ∙ ap (λ (t : List ℕ). front ++ t) same
+    ∙ sym (take-append-add front rest n)
+
 -- a wire that told that it held nothing gave what was put
 pub told_is_true : (a b : Option (List ℕ)) (put got : List ℕ) → HasJust a 0 → PassesThrough a b put got → ¬ StartsWith put got → a ≡ None
 told_is_true None b put got just passes other = λ i. None

@@ -1,21 +1,25 @@
 // A message goes over a wire.
 ghost use Rattle.pr_flow.specs.Moving.{IsCarried, IsLie, IsNoLieOrCut};
 ghost use Rattle.pr_inval.specs.Messages.{IsMessage};
+ghost use Rattle.pr_wire.specs.Frames.{IsFrame};
+ghost use Rattle.pr_wire.specs.Pieces.{rest_of};
 ghost use Rattle.pr_wire.specs.Spelling.{spelling};
 ghost use Rattle.pr_wire.specs.declared.format.Format.{Format};
-ghost use Rattle.std.specs.Prelude.{◌≡◌, ◌≤◌, ◌<◌, ◌+◌, ◌++◌, IsTrue, IfOk, length, min, take};
+ghost use Rattle.std.specs.Prelude.{◌≡◌, ◌≤◌, ◌<◌, ◌+◌, ◌++◌, IsTrue, IfOk, drop, length, min, take};
 
 use crate::passing::{Passed, pass};
 use pr_inval::{Bytes, Msg};
 use pr_stamps::{NoMemory, Seq};
 use pr_story::Cause;
-use pr_wire::{Feed, Pieces, encode};
+use pr_wire::{Feed, Pieces, decode, encode};
 use pr_wires::Wire;
 use std::alloc::Global;
 
-// How many bytes are put into a wire before they are taken again: nearly every invalidation has no more, and a wire holds
-// eight times as many. The room for them is cleared for each message.
-const PIECE: usize = 512;
+// The most bytes that are put into a wire before they are taken again.
+const PIECE: usize = 4096;
+
+// Nearly every frame is shorter, and needs no room for a whole piece.
+const SHORT: usize = 512;
 
 /// A message was taken again and decoded; the wire failed or ended; or other bytes were taken.
 #[derive(Drop)]
@@ -25,9 +29,9 @@ pub enum Carried {
     Lied { sent: Bytes, got: Bytes },
 }
 
-/// Encodes a message piece by piece, puts each into a wire that holds nothing, takes it again before the next, and decodes
-/// the message once all came. It takes memory for one frame and what is decoded of it, and for the encoding only where
-/// other bytes are taken.
+/// Encodes a message, puts it into a wire that holds nothing, in pieces of 4,096 bytes or of what is left, takes each again
+/// before the next, and decodes the message once all came, in time linear in its frame. It takes memory for what is decoded,
+/// for the frame where that has 512 bytes or more, and for the encoding where other bytes are taken.
 pub fn carry<W: Wire>(alloc: Global, msg: &Msg, wire: &mut W) -> Result<Carried, NoMemory>
     requires message { IsMessage msg.now }
     requires under { (W.state wire.old).under ≡ 0 }
@@ -35,22 +39,63 @@ pub fn carry<W: Wire>(alloc: Global, msg: &Msg, wire: &mut W) -> Result<Carried,
     ensures sound { IsTrue (W.state wire.old).sound → IsNoLieOrCut result }
 {
     let mut pieces = Pieces::new(msg);
+    let mut frame = [0; SHORT];
+    let len = pieces.next(&mut frame);
+    if len == SHORT {
+        return carry_long(alloc, msg, &frame, &mut pieces, wire);
+    }
+    let mut bytes = [0; SHORT];
+    match pass(wire, &frame[..len], &mut bytes[..len]) {
+        Passed::Whole => Ok(Carried::Whole(decode(alloc, &bytes[..len])?)),
+        Passed::Cut(cause) => Ok(Carried::Cut(cause)),
+        Passed::Lied { len } => lied(alloc, msg, 0, &bytes[..len]),
+    }
+}
+
+// Carries a message whose frame begins with these bytes, and goes on with what the pieces have left. The room for a whole
+// piece is cleared here alone.
+#[inline(never)]
+fn carry_long<W: Wire>(
+    alloc: Global,
+    msg: &Msg,
+    front: &[u8],
+    pieces: &mut Pieces,
+    wire: &mut W,
+) -> Result<Carried, NoMemory>
+    requires frame { IsFrame Format.Two msg.now (front.now ++ rest_of pieces.old) }
+    requires some { 0 < length front.now }
+    requires room { length front.now < 4096 }
+    requires under { (W.state wire.old).under ≡ 0 }
+    ensures moved { IsCarried (W.state wire.old) (W.state wire.new) msg.now result }
+    ensures sound { IsTrue (W.state wire.old).sound → IsNoLieOrCut result }
+{
     let mut feed = Feed::new(alloc, u64::MAX);
     let mut piece = [0; PIECE];
     let mut bytes = [0; PIECE];
     let mut done: usize = 0;
-    loop {
-        let len = pieces.next(&mut piece);
-        if len == 0 {
-            return Ok(Carried::Whole(feed.only_message()?));
-        }
+    let mut len = first_piece(front, pieces, &mut piece);
+    while len > 0 {
         match pass(wire, &piece[..len], &mut bytes[..len]) {
             Passed::Whole => feed.push(&bytes[..len])?,
             Passed::Cut(cause) => return Ok(Carried::Cut(cause)),
             Passed::Lied { len } => return lied(alloc, msg, done, &bytes[..len]),
         }
         done = done.saturating_add(len);
+        len = pieces.next(&mut piece);
     }
+    Ok(Carried::Whole(feed.only_message()?))
+}
+
+// Fills the piece with these bytes, and then with those that the pieces have left; how many that are.
+fn first_piece(front: &[u8], pieces: &mut Pieces, piece: &mut [u8]) -> usize
+    requires { length front.now < length piece.old }
+    ensures count { result ≡ min (length piece.old) (length (front.now ++ rest_of pieces.old)) }
+    ensures bytes { take result piece.new ≡ take result (front.now ++ rest_of pieces.old) }
+    ensures rest { rest_of pieces.new ≡ drop result (front.now ++ rest_of pieces.old) }
+{
+    let len = front.len();
+    piece[..len].copy_from_slice(front);
+    len + pieces.next(&mut piece[len..])
 }
 
 // The encoding of the message, and what was taken for it: so many first bytes of the encoding, and then these.

@@ -15,10 +15,11 @@ use pr_wires::Wire;
 use std::alloc::Global;
 
 /// Makes so many turns of the session's stream, fewer only where one is stale or the flow goes down. A turn at the
-/// source that sends a message puts its encoding (docs/WIRE.md) into the wire, in pieces of at most 512 bytes, takes
-/// each again before the next, and gives the destination what is decoded of these bytes. Besides the calls on the
-/// sides the time is linear in the encodings; memory is taken for one frame and its message at a time, and for an
-/// encoding only where the wire gave other bytes. A fault that a side answers is answered.
+/// source that sends a message puts its encoding (docs/WIRE.md) into the wire, in pieces of 4,096 bytes or of what is
+/// left, takes each again before the next, and gives the destination what is decoded of these bytes. Besides the calls
+/// on the sides the time is linear in the encodings; memory is taken for one message at a time, for its frame where that
+/// has 512 bytes or more, and for an encoding only where the wire gave other bytes. A fault that a side answers is
+/// answered.
 pub fn flow<A: Side, B: Side, W: Wire>(
     alloc: Global,
     turns: u64,
