@@ -15,6 +15,7 @@ use Rattle.pr_story.specs.History.{current_vector}
 use Rattle.pr_story.specs.Ranges.{IsMsg}
 use Rattle.pr_story.specs.Told.{IsStart}
 use Rattle.pr_story.specs.Turns.{IsSnapshot, is_body}
+use Rattle.pr_node.specs.Sending.{IsSentOf}
 use Rattle.pr_node.proofs.Adding.{IsReady}
 use Rattle.pr_node.proofs.Going.{same_number}
 use Rattle.pr_story.specs.Sessions.{HasGoneOn}
@@ -72,12 +73,19 @@ snapshot_ends sets n j names (Precise from to write) so = absurd so
 snapshot_ends sets n j names (Imprecise from to target) so = absurd so
 snapshot_ends sets n j names (Body name stamp bytes) so = absurd so
 
-pub checkpoint_ready : (needs : ℕ → List ℕ) (n : ℕ) (j : List Entry) (sets : List (List Span)) (a : Standing) (names : List Span) (time caller : ℕ) (msg : Msg)
-    → IsMsg msg → msg.number ≡ a.number + 1 → msg.time ≡ time → names ≡ a.names → IsSnapshot sets n j names msg.kind → IsReady (λ x. a) needs n j sets (record { time = time; caller = caller; event = Sent msg })
-checkpoint_ready needs n j sets a names time caller msg range number at is so = record {
-  in_range = range;
-  may_come = (number, at, inr (subst (λ (x : List Span). IsSnapshot sets n j x msg.kind) is so));
-}
+-- the message is the session's checkpoint, where its kind is that of a snapshot of the session's names
+pub snapshot_sent : (sets : List (List Span)) (n : ℕ) (j : List Entry) (names : List Span) (kind : Kind) (a : SessionMeaning) (time : ℕ) (msg : Msg) → names ≡ a.standing.names
+    → msg.stream ≡ a.stream → msg.number ≡ a.standing.number + 1 → msg.time ≡ time → msg.kind ≡ kind → IsSnapshot sets n j names kind → IsSentOf (IsSnapshot sets n j a.standing.names) a time (Sent msg)
+snapshot_sent sets n j names kind a time msg own stream number at is so = (
+  stream,
+  number,
+  at,
+  subst (λ (x : List Span). IsSnapshot sets n j x msg.kind) own (subst (λ (k : Kind). IsSnapshot sets n j names k) (sym is) so),
+)
+
+pub checkpoint_ready : (needs : ℕ → List ℕ) (n : ℕ) (j : List Entry) (sets : List (List Span)) (a : SessionMeaning) (time caller : ℕ) (msg : Msg)
+    → IsMsg msg → IsSentOf (IsSnapshot sets n j a.standing.names) a time (Sent msg) → IsReady (λ x. a.standing) needs n j sets (record { time = time; caller = caller; event = Sent msg })
+checkpoint_ready needs n j sets a time caller msg range so = record { in_range = range; may_come = (so.1, so.2, inr so.3) }
 
 pub attach_ready : (needs : ℕ → List ℕ) (n : ℕ) (j : List Entry) (sets : List (List Span)) (a : Standing) (names : List Span) (time caller stream : ℕ) (at : List ℕ)
     → stream < 2 ^ 32 → IsVector at → names ≡ a.names → IsStart sets n j names at → IsReady (λ x. a) needs n j sets (record { time = time; caller = caller; event = Attached stream at })

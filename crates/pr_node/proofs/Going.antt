@@ -9,20 +9,19 @@ use Rattle.pr_vectors.proofs.Vectors.{is-vector_of}
 use Rattle.pr_inval.specs.declared.kind.Kind.{Kind}
 use Rattle.pr_inval.specs.declared.kind.Kind.TheVariants.{Precise, Imprecise, Checkpoint, Body}
 use Rattle.pr_inval.specs.declared.msg.Msg.{Msg}
-use Rattle.pr_inval.specs.declared.step.Step.{Step}
-use Rattle.pr_inval.specs.declared.step.Step.TheVariants as step
 use Rattle.pr_inval.specs.Points.{to_of}
 use Rattle.pr_inval.specs.Standing.{SessionMeaning, Standing, HasSentBody}
 use Rattle.pr_log.specs.Log.{Logged}
 use Rattle.pr_story.specs.declared.entry.Entry.{Entry}
-use Rattle.pr_story.specs.declared.event.Event.TheVariants.{Sent}
+use Rattle.pr_story.specs.declared.event.Event.{Event}
+use Rattle.pr_story.specs.declared.event.Event.TheVariants.{Sent, Idle}
 use Rattle.pr_story.specs.History.{current_vector}
 use Rattle.pr_story.specs.Knowledge.{cuts_of}
 use Rattle.pr_story.specs.Sending.{IsAhead}
 use Rattle.pr_story.specs.Turns.{IsTurn, IdleTurn, SendTurn, is_body}
 use Rattle.pr_story.proofs.Basics.{clock_zero}
 use Rattle.pr_story.proofs.Sendings.{sends}
-use Rattle.pr_node.specs.Sending.{IsBodyStep, IsNextBodyOf, IsNextStep, IsSentOf}
+use Rattle.pr_node.specs.Sending.{IsBodyTurn, IsNextBodyOf, IsNextTurn, IsSentOf}
 use Rattle.pr_node.specs.Ties.{IsLogOf}
 use Rattle.pr_story.specs.Sessions.{HasGoneOn}
 
@@ -61,22 +60,20 @@ kind_body n j m session pos now kind f le at v all bodies so = by kind so
     by (Some (Checkpoint to target floor rows)) so = absurd so
 
 -- a message whose kind meets one test meets another
-pub sent_as : (P Q : Kind → Type 0) (session : SessionMeaning) (time : ℕ) (s : Step) → ((kind : Kind) → P kind → Q kind) → IsSentOf P session time s → IsSentOf Q session time s
-sent_as P Q session time (step.Sent msg) f (stream, number, at, so) = (stream, number, at, f msg.kind so)
-sent_as P Q session time step.Idle f so = absurd so
-sent_as P Q session time (step.Stale cut) f so = absurd so
+pub sent_as : (P Q : Kind → Type 0) (session : SessionMeaning) (time : ℕ) (e : Event) → ((kind : Kind) → P kind → Q kind) → IsSentOf P session time e → IsSentOf Q session time e
+sent_as P Q session time (Sent msg) f (stream, number, at, so) = (stream, number, at, f msg.kind so)
+sent_as P Q session time _ f so = absurd so
 
-pub step_ahead : (n : ℕ) (j : List Entry) (m : Logged) (session : SessionMeaning) (time : ℕ) (pos now : List ℕ) (names : List Span) (s : Step)
-    → IsLogOf n j m → Le m.cut session.standing.position → pos ≡ session.standing.position → names ≡ session.standing.names → now ≡ m.vector → (Le now pos → ⊥) → IsSentOf (IsAhead n j names pos) session time s → IsNextStep n j session time s
-step_ahead n j m session time pos now names (step.Sent msg) f le at is v past (stream, number, sent, so) = (stream, number, sent, kind_ahead n j m session.standing pos now names msg.kind f le at is v past so)
-step_ahead n j m session time pos now names step.Idle f le at is v past so = absurd so
-step_ahead n j m session time pos now names (step.Stale cut) f le at is v past so = absurd so
+pub turn_ahead : (n : ℕ) (j : List Entry) (m : Logged) (session : SessionMeaning) (time : ℕ) (pos now : List ℕ) (names : List Span) (e : Event)
+    → IsLogOf n j m → Le m.cut session.standing.position → pos ≡ session.standing.position → names ≡ session.standing.names → now ≡ m.vector → (Le now pos → ⊥) → IsSentOf (IsAhead n j names pos) session time e → IsNextTurn n j session time e
+turn_ahead n j m session time pos now names (Sent msg) f le at is v past (stream, number, sent, so) = (stream, number, sent, kind_ahead n j m session.standing pos now names msg.kind f le at is v past so)
+turn_ahead n j m session time pos now names _ f le at is v past so = absurd so
 
-pub step_body : (n : ℕ) (j : List Entry) (m : Logged) (session : SessionMeaning) (time : ℕ) (pos now : List ℕ) (s : Step)
-    → IsLogOf n j m → Le m.cut session.standing.position → pos ≡ session.standing.position → now ≡ m.vector → Le now pos → IsTrue session.standing.bodies → IsBodyStep j session time s → IsNextStep n j session time s
-step_body n j m session time pos now (step.Sent msg) f le at v all bodies (stream, number, sent, so) = (stream, number, sent, kind_body n j m session.standing pos now (Some msg.kind) f le at v all bodies so)
-step_body n j m session time pos now step.Idle f le at v all bodies so = kind_body n j m session.standing pos now None f le at v all bodies so
-step_body n j m session time pos now (step.Stale cut) f le at v all bodies so = absurd so
+pub turn_body : (n : ℕ) (j : List Entry) (m : Logged) (session : SessionMeaning) (time : ℕ) (pos now : List ℕ) (e : Event)
+    → IsLogOf n j m → Le m.cut session.standing.position → pos ≡ session.standing.position → now ≡ m.vector → Le now pos → IsTrue session.standing.bodies → IsBodyTurn j session time e → IsNextTurn n j session time e
+turn_body n j m session time pos now (Sent msg) f le at v all bodies (stream, number, sent, so) = (stream, number, sent, kind_body n j m session.standing pos now (Some msg.kind) f le at v all bodies so)
+turn_body n j m session time pos now (Idle stream) f le at v all bodies (own, so) = (own, kind_body n j m session.standing pos now None f le at v all bodies so)
+turn_body n j m session time pos now _ f le at v all bodies so = absurd so
 
 -- ---- sessions
 

@@ -11,17 +11,15 @@ use Rattle.pr_inval.specs.declared.kind.Kind.{Kind}
 use Rattle.pr_inval.specs.declared.kind.Kind.TheVariants.{Precise, Imprecise, Checkpoint, Body}
 use Rattle.pr_inval.specs.declared.row.Row.{Row}
 use Rattle.pr_inval.specs.declared.write_rec.WriteRec.{WriteRec}
-use Rattle.pr_inval.specs.declared.step.Step.{Step}
-use Rattle.pr_inval.specs.declared.step.Step.TheVariants as step
 use Rattle.pr_inval.specs.Standing.{IsSameSession, SessionMeaning, Standing}
 use Rattle.pr_marks.specs.Table.{is_after}
 use Rattle.pr_story.specs.declared.entry.Entry.{Entry}
 use Rattle.pr_story.specs.declared.event.Event.{Event}
-use Rattle.pr_story.specs.declared.event.Event.TheVariants.{Wrote, Accepted, Dropped}
+use Rattle.pr_story.specs.declared.event.Event.TheVariants.{Wrote, Sent, Idle, Stale, Accepted, Dropped}
 use Rattle.pr_story.specs.Knowledge.{IsOf, HasRow, NamesStamp, body_after, body_in, gone_told, held_body, known_gone}
 use Rattle.pr_story.specs.Sending.{HasBody, IsBodyOf, row_names}
 use Rattle.pr_story.specs.Sessions.{HasGoneOn}
-use Rattle.pr_story.specs.Turns.{IsBodyToSend, event_of, is_body, sent_after}
+use Rattle.pr_story.specs.Turns.{IsBodyToSend, is_body, sent_after}
 use Rattle.pr_story.proofs.Known.{Decides-is_this}
 use Rattle.pr_story.proofs.Naming.{NamesGone, first_how, told_names}
 use Rattle.pr_story.proofs.NewestFirst.{reverse-take_more}
@@ -30,7 +28,7 @@ use Rattle.pr_snap.proofs.Choice.{by_test}
 use Rattle.pr_snap.proofs.KnownNames.{fewer_next, is_next, named_so}
 use Rattle.pr_snap.proofs.NameOrder.{lt_trans}
 use Rattle.pr_node.specs.Scanning.{AreWaiting, HasAwaited, HasPassed, IsScanOf, Scanned, changed_in, changed_in_kind, fresh, oldest}
-use Rattle.pr_node.specs.Sending.{IsNextBodyOf}
+use Rattle.pr_node.specs.Sending.{IsNextBodyOf, IsTurnOf}
 use Rattle.pr_node.proofs.Walk.{IsPassed}
 
 -- ---- the oldest entries
@@ -287,17 +285,17 @@ not_before_or : (b c : Bool) → (b || c) ≡ false → c ≡ false
 not_before_or true c e = absurd (let bad : true ≡ false = e in cc)
 not_before_or false c e = e
 
-unsent : (stream : ℕ) (s : Step) (o : List ℕ) (t : Point) (before : Bool) → sent_after (event_of stream s) stream o t before ≡ false → before ≡ false
-unsent stream (step.Sent msg) o t before e = not_before_or (nat_eq msg.stream stream && is_body msg.kind o t) before e
-unsent stream step.Idle o t before e = e
-unsent stream (step.Stale cut) o t before e = e
+unsent : (stream : ℕ) (event : Event) (o : List ℕ) (t : Point) (before : Bool) → IsTurnOf stream event → sent_after event stream o t before ≡ false → before ≡ false
+unsent stream (Sent msg) o t before turn e = not_before_or (nat_eq msg.stream stream && is_body msg.kind o t) before e
+unsent stream (Idle s) o t before turn e = e
+unsent stream (Stale s cut) o t before turn e = e
+unsent stream _ o t before turn e = absurd turn
 
 -- the entry of a turn was made, and the session went on by it
-pub scan_turned : (scan : Scanned) (a b : SessionMeaning) (attached : Bool) (s : Step) (time caller : ℕ) (e : Entry) (old new : List Entry)
-    → HasGoneOn a b attached (record { time = time; caller = caller; event = event_of a.stream s }) → new ≡ old ++ e ∷ [] → IsScanOf scan a.standing (reverse old) → IsScanOf scan b.standing (reverse new)
-scan_turned scan a b attached s time caller e old new on is so = subst (λ (x : List Entry). IsScanOf scan b.standing x) (sym (ap (λ (x : List Entry). reverse x) is ∙ reverse-append old (e ∷ [])))
+pub scan_turned : (scan : Scanned) (a b : SessionMeaning) (attached : Bool) (e : Entry) (old new : List Entry) → HasGoneOn a b attached e → IsTurnOf a.stream e.event → new ≡ old ++ e ∷ [] → IsScanOf scan a.standing (reverse old) → IsScanOf scan b.standing (reverse new)
+scan_turned scan a b attached e old new on turn is so = subst (λ (x : List Entry). IsScanOf scan b.standing x) (sym (ap (λ (x : List Entry). reverse x) is ∙ reverse-append old (e ∷ [])))
     (scan_kept scan b.standing e (reverse old)
-    (scan_onward scan a.standing b.standing (reverse old) on.after.names (λ o t new_one. unsent a.stream s o t (a.standing.sent o t) (sym (on.after.sent o t) ∙ new_one)) so))
+    (scan_onward scan a.standing b.standing (reverse old) on.after.names (λ o t new_one. unsent a.stream e.event o t (a.standing.sent o t) turn (sym (on.after.sent o t) ∙ new_one)) so))
 
 -- the same session but for its room, and the same entries
 pub scan_here : (scan : Scanned) (a b : SessionMeaning) (old new : List Entry) → IsSameSession a b → new ≡ old → IsScanOf scan a.standing (reverse old) → IsScanOf scan b.standing (reverse new)

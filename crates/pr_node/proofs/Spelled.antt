@@ -1,6 +1,6 @@
 -- What a node sends is in the grammar, where what it was told is.
 use Rattle.std.proofs.Common.{◌≡◌, ℕ, ◌<◌, ◌≤◌, ◌+◌, ◌⊎◌, inl, inr, List, [], ◌∷◌, suc, max, min, cond, nat_eq, refl, sym, ◌∙◌, ap, subst, arith, length, get_or}
-use Rattle.std.specs.Prelude.{Bool, Option, None, Some, All, AllPairs, Contains}
+use Rattle.std.specs.Prelude.{Bool, Option, None, Some, Result, Ok, Err, IfOk, All, AllPairs, Contains}
 use Rattle.std.specs.List.{AllByRecursion}
 use Rattle.std.proofs.lemmas.Bool.Decides.{nat_tests}
 use Rattle.std.proofs.lemmas.List.Elements.{All-contains, All-from_recursion}
@@ -17,22 +17,21 @@ use Rattle.pr_inval.specs.declared.row.Row.{Row}
 use Rattle.pr_inval.specs.declared.write_rec.WriteRec.{WriteRec}
 use Rattle.pr_inval.specs.Points.{to_of}
 use Rattle.pr_inval.specs.Standing.{SessionMeaning, Standing}
-use Rattle.pr_inval.specs.declared.step.Step.{Step}
-use Rattle.pr_inval.specs.declared.step.Step.TheVariants as step
-use Rattle.pr_node.specs.Sending.{IsNextStep, IsStepInRange}
+use Rattle.pr_node.specs.Sending.{IsNextTurn}
 use Rattle.pr_story.specs.declared.entry.Entry.{Entry}
 use Rattle.pr_story.specs.declared.event.Event.{Event}
-use Rattle.pr_story.specs.declared.event.Event.TheVariants.{Wrote, Accepted, Cut}
+use Rattle.pr_story.specs.declared.event.Event.TheVariants.{Wrote, Sent, Idle, Stale, Accepted, Cut}
 use Rattle.pr_story.specs.History.{Accepts, HasAccepted, Writes, SomeEvent, clock_brought, current_clock, current_vector}
 use Rattle.pr_story.specs.Knowledge.{IsOf, HasRow, TellsOf, HeardOf, NamesStamp, WasNamed, IsMark, floor_in, floor_after, floor_of}
-use Rattle.pr_story.specs.Ranges.{IsKind as IsKindInRange, IsMsg, IsRow as IsRowInRange, IsStampOrNone}
+use Rattle.pr_story.specs.Ranges.{IsInRange, IsKind as IsKindInRange, IsMsg, IsRow as IsRowInRange, IsStampOrNone}
 use Rattle.pr_story.specs.Turns.{IsTurn, SendTurn, IsSnapshot, IsSnapshotRow}
 use Rattle.pr_story.proofs.Basics.{clock_zero}
 use Rattle.pr_story.proofs.Known.{known_told, held_how}
 use Rattle.pr_story.proofs.Naming.{TellsMark, WasToldMark, known_mark_told}
 use Rattle.pr_inval.specs.Messages.{IsAscending, IsCheckpoint, IsEarlierMark, IsEarlierRow, IsKind, IsMark as IsMarkOfRow, IsMessage, IsRow}
-use Rattle.pr_node.specs.Grammar.{HasBytes, IsSpelled, IsSpelledEvent, IsStepSpelled}
-use Rattle.pr_node.specs.Ties.{IsMarkInRange}
+use Rattle.pr_node.specs.Grammar.{HasBytes, IsSendSpelled, IsSpelled, IsSpelledEvent}
+use Rattle.pr_node.specs.declared.stores.Stores.{Stores}
+use Rattle.pr_node.specs.Ties.{IsMarkInRange, IsTied}
 use Rattle.pr_node.proofs.Clocks.{vector_grows}
 
 -- ---- rows of a checkpoint
@@ -366,26 +365,26 @@ snapshot_kind sets n j names (Checkpoint to target floor rows) spelled range t =
 
 -- ---- messages
 
-later : (last heard time : ℕ) → time ≡ max last heard + 1 → heard < time
-later last heard time e = omega (arith, e)
+pub message_spelled : (kind : Kind) (msg : Msg) (number heard : ℕ) → IsKind kind → msg.kind ≡ kind → msg.number ≡ number + 1 → number ≤ heard → heard < msg.time → msg.time ≤ 4611686018427387903 → IsMessage msg
+message_spelled kind msg number heard k same next low up most = record {
+  from_one = omega (arith, up);
+  most = most;
+  number_from_one = omega (arith, next);
+  number_most = omega (arith, next, low, up, most);
+  kind = subst (λ (q : Kind). IsKind q) (sym same) k;
+}
 
-pub message_spelled : (kind : Kind) (msg : Msg) (number last heard : ℕ) → IsKind kind → msg.kind ≡ kind → msg.number ≡ number + 1 → number ≤ heard
-    → (msg.time ≡ max last heard + 1) × (msg.time ≤ 4611686018427387903) → IsMessage msg
-message_spelled kind msg number last heard k same next low time =
-    let up : heard < msg.time = later last heard msg.time time.0 in
-    let most : msg.time ≤ 4611686018427387903 = time.1 in
-    record {
-      from_one = omega (arith, up);
-      most = most;
-      number_from_one = omega (arith, next);
-      number_most = omega (arith, next, low, up, most);
-      kind = subst (λ (q : Kind). IsKind q) (sym same) k;
-    }
+pub turn_spelled : (n : ℕ) (j : List Entry) (a : SessionMeaning) (time : ℕ) (event : Event) → IsSpelled j → IsInRange event → a.standing.number ≤ a.standing.time → a.standing.time < time → time ≤ 4611686018427387903
+    → IsNextTurn n j a time event → IsSendSpelled event
+turn_spelled n j a time (Sent msg) spelled range low up most next =
+    message_spelled msg.kind msg a.standing.number a.standing.time (turn_kind n j a.standing msg.kind spelled range.3 next.3) refl next.1 low
+    (subst (λ (t : ℕ). a.standing.time < t) (sym next.2) up) (subst (λ (t : ℕ). t ≤ 4611686018427387903) (sym next.2) most)
+turn_spelled n j a time (Idle stream) spelled range low up most next = tt
+turn_spelled n j a time (Stale stream cut) spelled range low up most next = tt
+turn_spelled n j a time _ spelled range low up most next = absurd next
 
-pub step_spelled : (n : ℕ) (j : List Entry) (m : SessionMeaning) (time last heard : ℕ) (step : Step) → IsSpelled j → IsStepInRange step → m.standing.number ≤ heard
-    → (time ≡ max last heard + 1) × (time ≤ 4611686018427387903) → IsNextStep n j m time step → IsStepSpelled step
-step_spelled n j m time last heard (step.Sent msg) spelled range low at next =
-    message_spelled msg.kind msg m.standing.number last heard (turn_kind n j m.standing msg.kind spelled range.3 next.3) refl next.1 low
-    (subst (λ (t : ℕ). (t ≡ max last heard + 1) × (t ≤ 4611686018427387903)) (sym next.2) at)
-step_spelled n j m time last heard step.Idle spelled range low at next = tt
-step_spelled n j m time last heard (step.Stale cut) spelled range low at next = tt
+-- so it is of a turn that may be refused
+pub any_spelled : {E : Type 0} (r : Result Event E) (j : List Entry) (s : Stores) (a : SessionMeaning) (time : ℕ) → a.standing.number ≤ a.standing.time → a.standing.time < time → time ≤ 4611686018427387903
+    → IfOk r (λ event. (n : ℕ) → IsTied n j s → IsNextTurn n j a time event) → IfOk r IsInRange → IfOk r (λ event. (n : ℕ) → IsTied n j s → IsSendSpelled event)
+any_spelled (Ok event) j s a time low up most next range = λ n tied. turn_spelled n j a time event tied.spelled range low up most (next n tied)
+any_spelled (Err fault) j s a time low up most next range = tt

@@ -1,5 +1,5 @@
 -- A turn is one lawful entry, and its session goes on by it.
-use Rattle.std.proofs.Common.{◌≡◌, ℕ, ◌<◌, ◌+◌, ◌^◌, inl, List, refl, sym, ◌∙◌, subst}
+use Rattle.std.proofs.Common.{◌≡◌, ℕ, ◌+◌, inl, List, refl, ◌∙◌, ap, subst, reverse}
 use Rattle.std.specs.Prelude.{true, IsTrue}
 use Rattle.pr_names.specs.Span.{Span}
 use Rattle.pr_inval.specs.declared.kind.Kind.{Kind}
@@ -9,52 +9,75 @@ use Rattle.pr_inval.specs.declared.step.Step.TheVariants as step
 use Rattle.pr_inval.specs.Standing.{SessionMeaning, Standing, IsSameSession}
 use Rattle.pr_story.specs.declared.entry.Entry.{Entry}
 use Rattle.pr_story.specs.declared.event.Event.{Event}
+use Rattle.pr_story.specs.declared.event.Event.TheVariants.{Sent, Idle, Stale}
 use Rattle.pr_story.specs.Lawful.{heard_time}
-use Rattle.pr_story.specs.Turns.{IsTurn, SendTurn, event_of}
-use Rattle.pr_node.specs.Calls.{IsStep}
+use Rattle.pr_story.specs.Ranges.{IsInRange}
+use Rattle.pr_story.specs.Turns.{IsTurn, SendTurn, IdleTurn, StaleTurn, event_of}
+use Rattle.pr_node.specs.declared.answers.turned.Turned.{Turned}
+use Rattle.pr_node.specs.declared.answers.turned.Turned.TheVariants as turned
+use Rattle.pr_node.specs.declared.stores.Stores.{Stores}
+use Rattle.pr_node.specs.Calls.{IsStep, IsTurned}
+use Rattle.pr_node.specs.Grammar.{IsSendSpelled, IsStepSpelled}
 use Rattle.pr_node.specs.Quiet.{IsQuiet}
-use Rattle.pr_node.specs.Sending.{IsNextStep, IsStepInRange, IsStepOf}
+use Rattle.pr_node.specs.Sending.{IsNextTurn, IsOfKind, IsTurnOf}
+use Rattle.pr_node.specs.Ties.{IsTied}
 use Rattle.pr_node.proofs.Adding.{IsReady}
 use Rattle.pr_story.specs.Sessions.{HasGoneOn, IsAfter}
 use Rattle.pr_story.specs.Commands.{IsNoCheckpoint}
 
+-- ---- what stays
+
+-- what is so by the tie to a journal, is so by the tie to the same journal
+pub tied_so : (n : ℕ) (old entries : List Entry) (s : Stores) (P : List Entry → Type 0) → entries ≡ old → (IsTied n (reverse entries) s → P (reverse entries)) → IsTied n (reverse old) s → P (reverse old)
+tied_so n old entries s P is so = subst (λ (x : List Entry). IsTied n (reverse x) s → P (reverse x)) is so
+
 -- a session whose room alone has changed
-pub step_at : (n : ℕ) (j : List Entry) (a b : SessionMeaning) (time : ℕ) (s : Step) → IsSameSession a b → IsNextStep n j b time s → IsNextStep n j a time s
-step_at n j a b time (step.Sent msg) same so = (
+pub turn_at : (n : ℕ) (j : List Entry) (a b : SessionMeaning) (time : ℕ) (event : Event) → IsSameSession a b → IsNextTurn n j b time event → IsNextTurn n j a time event
+turn_at n j a b time (Sent msg) same so = (
   so.0 ∙ same.stream,
   subst (λ (x : Standing). msg.number ≡ x.number + 1) same.standing so.1,
   so.2,
   subst (λ (x : Standing). IsTurn n j x (SendTurn msg.kind)) same.standing so.3,
 )
-step_at n j a b time step.Idle same so = subst (λ (x : Standing). IsNextStep n j (record { stream = a.stream; attached = a.attached; room = a.room; standing = x }) time step.Idle) same.standing so
-step_at n j a b time (step.Stale cut) same so = subst (λ (x : Standing). IsNextStep n j (record { stream = a.stream; attached = a.attached; room = a.room; standing = x }) time (step.Stale cut)) same.standing so
+turn_at n j a b time (Idle stream) same so = (so.0 ∙ same.stream, subst (λ (x : Standing). IsTurn n j x IdleTurn) same.standing so.1)
+turn_at n j a b time (Stale stream cut) same so = (so.0 ∙ same.stream, subst (λ (x : Standing). IsTurn n j x (StaleTurn cut)) same.standing so.1)
+turn_at n j a b time _ same so = absurd so
 
-step_ready : (needs : ℕ → List ℕ) (n : ℕ) (j : List Entry) (sets : List (List Span)) (a : SessionMeaning) (time caller : ℕ) (s : Step)
-    → a.stream < 2 ^ 32 → IsStepInRange s → IsNextStep n j a time s → IsReady (λ x. a.standing) needs n j sets (record { time = time; caller = caller; event = event_of a.stream s })
-step_ready needs n j sets a time caller (step.Sent msg) number range so = record { in_range = range; may_come = (so.1, so.2, inl so.3) }
-step_ready needs n j sets a time caller step.Idle number range so = record { in_range = number; may_come = so }
-step_ready needs n j sets a time caller (step.Stale cut) number range so = record { in_range = (number, range); may_come = so }
+pub has_gone_on : (a m b : SessionMeaning) (e : Entry) → IsSameSession a m → IsTrue a.attached → HasGoneOn m b m.attached e → HasGoneOn a b true e
+has_gone_on a m b e same attached so = record {
+  stream = so.stream ∙ same.stream;
+  is_attached = so.is_attached ∙ same.attached ∙ attached;
+  after = subst (λ (x : Standing). IsAfter a.stream e x b.standing) same.standing (subst (λ (k : ℕ). IsAfter k e m.standing b.standing) same.stream so.after);
+}
 
-pub turn_ready : (needs : ℕ → List ℕ) (n : ℕ) (j : List Entry) (sets : List (List Span)) (a : SessionMeaning) (time caller : ℕ) (s : Step) (event : Event)
-    → event ≡ event_of a.stream s → a.stream < 2 ^ 32 → IsStepInRange s → IsNextStep n j a time s → IsReady (λ x. a.standing) needs n j sets (record { time = time; caller = caller; event = event })
-turn_ready needs n j sets a time caller s event is number range so =
-    subst (λ (e : Event). IsReady (λ x. a.standing) needs n j sets (record { time = time; caller = caller; event = e })) (sym is) (step_ready needs n j sets a time caller s number range so)
+-- ---- the entry
 
-step_heard : (st : Standing) (stream : ℕ) (s : Step) → st.time ≡ heard_time (λ x. st) (event_of stream s)
-step_heard st stream (step.Sent msg) = refl
-step_heard st stream step.Idle = refl
-step_heard st stream (step.Stale cut) = refl
+pub turn_of : (n : ℕ) (j : List Entry) (a : SessionMeaning) (time : ℕ) (event : Event) → IsNextTurn n j a time event → IsTurnOf a.stream event
+turn_of n j a time (Sent msg) so = so.0
+turn_of n j a time (Idle stream) so = so.0
+turn_of n j a time (Stale stream cut) so = so.0
+turn_of n j a time _ so = absurd so
 
-pub turn_heard : (st : Standing) (stream : ℕ) (s : Step) (event : Event) → event ≡ event_of stream s → st.time ≡ heard_time (λ x. st) event
-turn_heard st stream s event is = subst (λ (e : Event). st.time ≡ heard_time (λ x. st) e) (sym is) (step_heard st stream s)
+pub turn_ready : (needs : ℕ → List ℕ) (n : ℕ) (j : List Entry) (sets : List (List Span)) (a : SessionMeaning) (time caller : ℕ) (event : Event)
+    → IsInRange event → IsNextTurn n j a time event → IsReady (λ x. a.standing) needs n j sets (record { time = time; caller = caller; event = event })
+turn_ready needs n j sets a time caller (Sent msg) range so = record { in_range = range; may_come = (so.1, so.2, inl so.3) }
+turn_ready needs n j sets a time caller (Idle stream) range so = record { in_range = range; may_come = so.1 }
+turn_ready needs n j sets a time caller (Stale stream cut) range so = record { in_range = range; may_come = so.1 }
+turn_ready needs n j sets a time caller _ range so = absurd so
 
-step_quiet : (stream : ℕ) (s : Step) → IsQuiet (event_of stream s)
-step_quiet stream (step.Sent msg) = tt
-step_quiet stream step.Idle = tt
-step_quiet stream (step.Stale cut) = tt
+pub turn_heard : (n : ℕ) (j : List Entry) (a : SessionMeaning) (time : ℕ) (event : Event) → IsNextTurn n j a time event → a.standing.time ≡ heard_time (λ x. a.standing) event
+turn_heard n j a time (Sent msg) so = refl
+turn_heard n j a time (Idle stream) so = refl
+turn_heard n j a time (Stale stream cut) so = refl
+turn_heard n j a time _ so = absurd so
 
-pub turn_quiet : (stream : ℕ) (s : Step) (event : Event) → event ≡ event_of stream s → IsQuiet event
-turn_quiet stream s event is = subst (λ (e : Event). IsQuiet e) (sym is) (step_quiet stream s)
+pub turn_quiet : (n : ℕ) (j : List Entry) (a : SessionMeaning) (time : ℕ) (event : Event) → IsNextTurn n j a time event → IsQuiet event
+turn_quiet n j a time (Sent msg) so = tt
+turn_quiet n j a time (Idle stream) so = tt
+turn_quiet n j a time (Stale stream cut) so = tt
+turn_quiet n j a time _ so = absurd so
+
+-- ---- the answer
 
 no_checkpoint : (n : ℕ) (j : List Entry) (st : Standing) (kind : Kind) → IsTurn n j st (SendTurn kind) → IsNoCheckpoint kind
 no_checkpoint n j st (Precise from to write) so = tt
@@ -62,22 +85,19 @@ no_checkpoint n j st (Imprecise from to target) so = tt
 no_checkpoint n j st (Checkpoint to target floor rows) so = absurd so
 no_checkpoint n j st (Body name stamp bytes) so = tt
 
-pub turn_is : (n : ℕ) (j : List Entry) (a : SessionMeaning) (time caller : ℕ) (s : Step) (event : Event) → event ≡ event_of a.stream s → IsNextStep n j a time s → IsStep a.stream s (record { time = time; caller = caller; event = event })
-turn_is n j a time caller (step.Sent msg) event is so = (is, so.0, no_checkpoint n j a.standing msg.kind so.3)
+pub turn_is : (n : ℕ) (j : List Entry) (a : SessionMeaning) (time caller : ℕ) (s : Step) (event : Event) → event ≡ event_of a.stream s → IsNextTurn n j a time event → IsStep a.stream s (record { time = time; caller = caller; event = event })
+turn_is n j a time caller (step.Sent msg) event is so = let sent : IsNextTurn n j a time (Sent msg) = subst (λ (x : Event). IsNextTurn n j a time x) is so in (is, sent.0, no_checkpoint n j a.standing msg.kind sent.3)
 turn_is n j a time caller step.Idle event is so = is
 turn_is n j a time caller (step.Stale cut) event is so = is
 
-pub step_of : (n : ℕ) (j : List Entry) (a : SessionMeaning) (time : ℕ) (s : Step) → IsNextStep n j a time s → IsStepOf a.stream s
-step_of n j a time (step.Sent msg) so = so.0
-step_of n j a time step.Idle so = tt
-step_of n j a time (step.Stale cut) so = tt
+pub step_spelled : (stream : ℕ) (s : Step) (event : Event) → event ≡ event_of stream s → IsSendSpelled event → IsStepSpelled s
+step_spelled stream (step.Sent msg) event is good = subst (λ (x : Event). IsSendSpelled x) is good
+step_spelled stream step.Idle event is good = tt
+step_spelled stream (step.Stale cut) event is good = tt
 
-pub has_gone_on : (a m b : SessionMeaning) (time caller : ℕ) (event was : Event) → IsSameSession a m → IsTrue a.attached → event ≡ was
-    → HasGoneOn m b m.attached (record { time = time; caller = caller; event = was }) → HasGoneOn a b true (record { time = time; caller = caller; event = event })
-has_gone_on a m b time caller event was same attached is so =
-    subst (λ (e : Event). HasGoneOn a b true (record { time = time; caller = caller; event = e })) (sym is) (record {
-      stream = so.stream ∙ same.stream;
-      is_attached = so.is_attached ∙ same.attached ∙ attached;
-      after = subst (λ (x : Standing). IsAfter a.stream (record { time = time; caller = caller; event = was }) x b.standing) same.standing
-          (subst (λ (k : ℕ). IsAfter k (record { time = time; caller = caller; event = was }) m.standing b.standing) same.stream so.after);
-    })
+pub turn_told : (n : ℕ) (j : List Entry) (a : SessionMeaning) (time caller : ℕ) (t : Turned) (event : Event) → IsOfKind t event → IsNextTurn n j a time event → IsSendSpelled event
+    → IsTurned a.stream t (record { time = time; caller = caller; event = event })
+turn_told n j a time caller turned.Sent (Sent msg) kind so good = (msg, (refl, so.0, no_checkpoint n j a.standing msg.kind so.3), good)
+turn_told n j a time caller turned.Idle (Idle stream) kind so good = ap (λ (k : ℕ). Idle k) so.0
+turn_told n j a time caller turned.Stale (Stale stream cut) kind so good = (cut, ap (λ (k : ℕ). Stale k cut) so.0)
+turn_told n j a time caller _ _ kind so good = absurd kind

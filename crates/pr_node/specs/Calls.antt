@@ -10,6 +10,7 @@ use Rattle.pr_inval.specs.declared.taken.Taken.{Taken}
 use Rattle.pr_inval.specs.declared.taken.Taken.TheVariants as taken
 use Rattle.pr_inval.specs.declared.write_rec.WriteRec.{WriteRec}
 use Rattle.pr_inval.specs.Points.{from_of}
+use Rattle.pr_inval.specs.Messages.{IsMessage}
 use Rattle.pr_inval.specs.Standing.{Standing}
 use Rattle.pr_story.specs.declared.cause.Cause.{Cause}
 use Rattle.pr_story.specs.declared.entry.Entry.{Entry}
@@ -22,6 +23,8 @@ use Rattle.pr_node.specs.declared.answers.done.Done.{Done}
 use Rattle.pr_node.specs.declared.answers.done.Done.TheVariants as done
 use Rattle.pr_node.specs.declared.answers.seen.Seen.{Seen}
 use Rattle.pr_node.specs.declared.answers.seen.Seen.TheVariants as seen
+use Rattle.pr_node.specs.declared.answers.turned.Turned.{Turned}
+use Rattle.pr_node.specs.declared.answers.turned.Turned.TheVariants as turned
 use Rattle.pr_node.specs.Stored.{NodeMeaning}
 
 -- ---- the entry
@@ -111,9 +114,19 @@ IsStep stream (step.Sent msg) e = (e.event ≡ Sent msg) × (msg.stream ≡ stre
 IsStep stream step.Idle e = e.event ≡ Idle stream
 IsStep stream (step.Stale cut) e = e.event ≡ Stale stream cut
 
+-- a turn of this kind, whose message, if it sends one, is one of the grammar
+abbrev pub IsTurned : ℕ → Turned → Entry → Type 0
+IsTurned stream turned.Sent e = (msg : Msg) × IsStep stream (step.Sent msg) e × IsMessage msg
+IsTurned stream turned.Idle e = IsStep stream step.Idle e
+IsTurned stream turned.Stale e = (cut : List ℕ) × IsStep stream (step.Stale cut) e
+
 -- the stream's checkpoint
 abbrev pub IsCheckpointSent : ℕ → Msg → Entry → Type 0
 IsCheckpointSent stream msg e = (e.event ≡ Sent msg) × (msg.stream ≡ stream) × IsCheckpoint msg.kind
+
+-- the stream's checkpoint, a message of the grammar
+abbrev pub IsCheckpointed : ℕ → Entry → Type 0
+IsCheckpointed stream e = (msg : Msg) × IsCheckpointSent stream msg e × IsMessage msg
 
 -- the message was taken, or has a gap
 abbrev pub IsTaken : Msg → Taken → Entry → Type 0

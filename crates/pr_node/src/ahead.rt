@@ -4,9 +4,10 @@ ghost use Rattle.pr_inval.specs.Targets.{IsTargetFor};
 ghost use Rattle.pr_inval.specs.declared.kind.Kind.TheVariants.{Precise};
 ghost use Rattle.pr_log.specs.Log.{IsOmittedIn};
 ghost use Rattle.pr_names.specs.Name.{IsName};
-ghost use Rattle.pr_node.specs.Sending.{IsImpreciseOf, IsOmittedSet, IsSentOf, IsStepInRange};
+ghost use Rattle.pr_node.specs.Sending.{IsImpreciseOf, IsOmittedSet, IsSentOf};
 ghost use Rattle.pr_node.specs.Ties.{IsLogOf};
 ghost use Rattle.pr_sets.specs.Spans.{IsSetOf, Meet, has};
+ghost use Rattle.pr_story.specs.Ranges.{IsInRange};
 ghost use Rattle.pr_story.specs.Sending.{IsAhead};
 ghost use Rattle.pr_story.specs.Told.{IsDarkBetween};
 ghost use Rattle.pr_story.specs.Turns.{IsOmitted};
@@ -15,11 +16,12 @@ ghost use Rattle.pr_vectors.specs.Vector.{Le, join_of};
 ghost use Rattle.std.specs.Prelude.{◌≡◌, ◌⊎◌, ◌↔◌, ℕ, List, IfOk, IsOk, IsTrue, false};
 
 use crate::ranges::write_in_range;
-use pr_inval::{Kind, Msg, Session, Step, TARGET_INTERVALS, WriteRec, target_for};
+use pr_inval::{Kind, Msg, Session, TARGET_INTERVALS, WriteRec, target_for};
 use pr_log::Log;
 use pr_names::Name;
 use pr_sets::NameSet;
 use pr_stamps::{NoMemory, Stamp};
+use pr_story::Event;
 use pr_vectors::{PackedVector, Vector};
 use std::alloc::Global;
 
@@ -31,8 +33,8 @@ pub struct Withheld {
     pub omitted: NameSet,
 }
 
-// Sends the invalidation for these names from a position that the vector is past, as the session's next message. The
-// message is made where it is answered, and in calls of their own, since each move of one copies it.
+// The event that sends the invalidation for these names from a position that the vector is past, as the session's next
+// message. The event is made where it is answered, and in calls of their own, since each move of one copies it.
 #[inline(never)]
 pub fn ahead(
     alloc: Global,
@@ -41,10 +43,10 @@ pub fn ahead(
     position: &Vector,
     session: &Session,
     time: u64,
-) -> Result<Step, NoMemory>
+) -> Result<Event, NoMemory>
     requires cut { Le log.now.cut position.now }
-    ensures next { IfOk result (λ step. (n : ℕ) (j : List Entry) → IsLogOf n j log.now → IsSentOf (IsAhead n j names.now position.now) (means session.now) time step) }
-    ensures range { IfOk result IsStepInRange }
+    ensures next { IfOk result (λ event. (n : ℕ) (j : List Entry) → IsLogOf n j log.now → IsSentOf (IsAhead n j names.now position.now) (means session.now) time event) }
+    ensures range { IfOk result IsInRange }
 {
     let vector = log.vector();
     let Some(write) = log.next_write(position, names) else {
@@ -128,10 +130,10 @@ fn imprecise(
     to: &Vector,
     session: &Session,
     time: u64,
-) -> Result<Step, NoMemory>
+) -> Result<Event, NoMemory>
     requires { ¬ Meet (has found.now.omitted) (has names.now) }
     ensures value { IfOk result (IsSentOf (IsImpreciseOf found.now names.now from.now to.now) (means session.now) time) }
-    ensures range { IfOk result IsStepInRange }
+    ensures range { IfOk result IsInRange }
 {
     let target = target_for(alloc, &found.omitted, &found.dark, names)?;
     let _ = target.parts();
@@ -140,16 +142,18 @@ fn imprecise(
     let _ = from.at(0);
     let _ = to.at(0);
     let _ = session.time();
-    Ok(Step::Sent(Msg {
-        time,
-        stream: session.stream(),
-        number: session.number() + 1,
-        kind: Kind::Imprecise {
-            from: packed_from,
-            to: packed_to,
-            target,
+    Ok(Event::Sent {
+        msg: Msg {
+            time,
+            stream: session.stream(),
+            number: session.number() + 1,
+            kind: Kind::Imprecise {
+                from: packed_from,
+                to: packed_to,
+                target,
+            },
         },
-    }))
+    })
 }
 
 #[inline(never)]
@@ -160,9 +164,9 @@ fn precise(
     write: &WriteRec,
     session: &Session,
     time: u64,
-) -> Result<Step, NoMemory>
+) -> Result<Event, NoMemory>
     ensures value { IfOk result (IsSentOf (λ kind. kind ≡ Precise from.now to.now write.now) (means session.now) time) }
-    ensures range { IfOk result IsStepInRange }
+    ensures range { IfOk result IsInRange }
 {
     let packed_from = PackedVector::of(alloc, from)?;
     let packed_to = PackedVector::of(alloc, to)?;
@@ -170,14 +174,16 @@ fn precise(
     let _ = to.at(0);
     let _ = session.time();
     write_in_range(write);
-    Ok(Step::Sent(Msg {
-        time,
-        stream: session.stream(),
-        number: session.number() + 1,
-        kind: Kind::Precise {
-            from: packed_from,
-            to: packed_to,
-            write: *write,
+    Ok(Event::Sent {
+        msg: Msg {
+            time,
+            stream: session.stream(),
+            number: session.number() + 1,
+            kind: Kind::Precise {
+                from: packed_from,
+                to: packed_to,
+                write: *write,
+            },
         },
-    }))
+    })
 }

@@ -3,7 +3,9 @@
 mod answer;
 mod done;
 mod seen;
+mod turned;
 
 pub use answer::Answer;
 pub use done::Done;
 pub use seen::Seen;
+pub use turned::Turned;

@@ -2,11 +2,10 @@
 ghost use Rattle.pr_inval.specs.declared.node_fault.NodeFault.TheVariants as faults;
 ghost use Rattle.pr_node.specs.Calls.{IsHalted};
 ghost use Rattle.pr_story.specs.Lawful.{last_time};
-ghost use Rattle.pr_story.specs.declared.event.Event.TheVariants.{Accepted, Answered, Attached, Behind, Cut, Gapped, Sent, Stale, State, Wrote};
-ghost use Rattle.pr_story.specs.Turns.{event_of};
+ghost use Rattle.pr_story.specs.declared.event.Event.TheVariants.{Accepted, Answered, Attached, Behind, Cut, Gapped, Sent, State, Wrote};
 ghost use Rattle.std.specs.Prelude.{◌≡◌, ◌≤◌, ◌<◌, ◌+◌, ◌++◌, ◌∷◌, [], Err, true, false, IfErr, IfOk, OnErr, OnOk, max, reverse};
 
-use pr_inval::{Bytes, Msg, NodeFault, Step, WriteRec};
+use pr_inval::{Bytes, Msg, NodeFault, WriteRec};
 use pr_names::Name;
 use pr_stamps::{MAX, NoMemory, Seq};
 use pr_story::{Entry, Event, Journal, Reply};
@@ -121,31 +120,6 @@ impl Diary {
         self.spent = false;
     }
 
-    // Makes the entry of a stream's turn, with a copy of the message. A refusal leaves the diary.
-    pub fn turned(
-        &mut self,
-        time: u64,
-        caller: u32,
-        stream: u32,
-        step: &Step,
-    ) -> Result<(), NoMemory>
-        requires room { 0 < self.old.entries.room }
-        requires early { time ≤ 4611686018427387903 }
-        ensures items { OnOk result (self.new.entries.items ≡ self.old.entries.items ++ (record { time = time; caller = caller; event = event_of stream step.now }) ∷ []) }
-        ensures spent { OnOk result (self.new.spent ≡ false) }
-        ensures err { OnErr result (self.new ≡ self.old) }
-    {
-        match step {
-            Step::Sent(msg) => {
-                let msg = msg.copy(self.alloc)?;
-                self.sent(time, caller, msg);
-            }
-            Step::Idle => self.finish(time, caller, Event::Idle { stream }),
-            Step::Stale { cut } => self.stale(time, caller, stream, cut)?,
-        }
-        Ok(())
-    }
-
     // Makes the entry that a message was sent.
     pub fn sent(&mut self, time: u64, caller: u32, msg: Msg)
         requires room { 0 < self.old.entries.room }
@@ -154,19 +128,6 @@ impl Diary {
         ensures spent { self.new.spent ≡ false }
     {
         self.finish(time, caller, Event::Sent { msg });
-    }
-
-    // Makes the entry that a stream wants a checkpoint.
-    fn stale(&mut self, time: u64, caller: u32, stream: u32, cut: &Vector) -> Result<(), NoMemory>
-        requires room { 0 < self.old.entries.room }
-        requires early { time ≤ 4611686018427387903 }
-        ensures items { OnOk result (self.new.entries.items ≡ self.old.entries.items ++ (record { time = time; caller = caller; event = Stale stream cut.now }) ∷ []) }
-        ensures spent { OnOk result (self.new.spent ≡ false) }
-        ensures err { OnErr result (self.new ≡ self.old) }
-    {
-        let cut = PackedVector::of(self.alloc, cut)?;
-        self.finish(time, caller, Event::Stale { stream, cut });
-        Ok(())
     }
 
     // Makes the entry of a client's write.

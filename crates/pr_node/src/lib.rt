@@ -21,7 +21,7 @@ mod turning;
 mod waiting_bodies;
 mod writing;
 
-pub use answers::{Answer, Done, Seen};
+pub use answers::{Answer, Done, Seen, Turned};
 pub use law::lawful_journals_can_be_rebuilt;
 pub use node::Node;
 pub use pr_inval::{NodeFault, Step, Taken};

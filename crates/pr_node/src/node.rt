@@ -4,7 +4,7 @@ ghost use Rattle.pr_inval.specs.Standing.{IsSameSession};
 ghost use Rattle.pr_inval.specs.declared.msg.Msg.{Msg};
 ghost use Rattle.pr_inval.specs.declared.node_fault.NodeFault.TheVariants as faults;
 ghost use Rattle.pr_node.specs.Answering.{IsAnswerAt, reply_of};
-ghost use Rattle.pr_node.specs.Calls.{AddsAlone, AddsOfClient, AddsOfStream, IsAttachedAt, IsCheckpointSent, IsDone, IsDownFor, IsFault, IsMissed, IsMoveOf, IsSeen, IsStateEvent, IsStep, IsTaken, IsTimeWorn, IsWriteWorn};
+ghost use Rattle.pr_node.specs.Calls.{AddsAlone, AddsOfClient, AddsOfStream, IsAttachedAt, IsCheckpointSent, IsCheckpointed, IsDone, IsDownFor, IsFault, IsMissed, IsMoveOf, IsSeen, IsStateEvent, IsStep, IsTaken, IsTimeWorn, IsTurned, IsWriteWorn};
 ghost use Rattle.pr_node.specs.Grammar.{IsStepSpelled};
 ghost use Rattle.pr_node.specs.Rebuilding.{IsOfNode};
 ghost use Rattle.pr_node.specs.Scanning.{IsScanOf};
@@ -23,11 +23,11 @@ use crate::diary::Diary;
 use crate::ranges::{bytes_in_range, msg_in_range};
 use crate::rebuilding::{cut, drop_body, fresh, rebuilt};
 use crate::standing::precise;
-use crate::starting::{snapshot, start};
+use crate::starting::{checkpoint, start};
 use crate::taking::{gap, take};
-use crate::turning::{message, next_step, note};
+use crate::turning::{kind_of, next_turn, note, step_of};
 use crate::writing::{keep_write, next_write};
-use crate::{Answer, Done, Scan, Seen, Stores};
+use crate::{Answer, Done, Scan, Seen, Stores, Turned};
 use pr_inval::{Msg, NodeFault, Session, Step, Taken};
 use pr_names::Name;
 use pr_sets::NameSet;
@@ -353,7 +353,7 @@ impl Node {
     /// The same turn, from where the stream's scan has come. For a body it takes a look at each entry that was made since
     /// the scan last looked, and a logarithmic one at each name that these changed and at each known name of the
     /// subscription that it has not passed, up to the one that is sent. So many turns look at each entry once for each
-    /// scan, and at a name once for each time that it changed, and once more.
+    /// scan, and at a name once for each time that it changed, and once more. The message is copied once, for the answer.
     pub fn turn_from(
         &mut self,
         caller: u32,
@@ -370,18 +370,48 @@ impl Node {
         ensures spent { self.old.spent ≡ true → result ≡ Err faults.NoMemory }
     {
         let time = self.diary.begin(session.time())?;
-        let _ = session.number();
-        session.room()?;
         let entries = self.diary.journal().entries();
-        let step = next_step(self.alloc, &self.stores, entries, session, scan, time)?;
-        let stream = session.stream();
-        self.diary.turned(time, caller, stream, &step)?;
-        note(session, &step, time);
+        let event = next_turn(self.alloc, &self.stores, entries, session, scan, time)?;
+        let step = match step_of(self.alloc, &event) {
+            Ok(step) => step,
+            Err(refused) => {
+                // By a call, so that its kinds are not told apart here.
+                drop(event);
+                return Err(refused.into());
+            }
+        };
+        note(session, &event, time);
+        self.diary.finish(time, caller, event);
         Ok(step)
     }
 
+    /// The same turn, for callers that find its message where it stands, in the newest entry of the journal. It takes the
+    /// time of `turn_from`, and copies nothing of the message.
+    pub fn note_turn(
+        &mut self,
+        caller: u32,
+        session: &mut Session,
+        scan: &mut Scan,
+    ) -> Result<Turned, NodeFault>
+        requires attached { IsTrue (Standing.means session.old).attached }
+        requires scan { IsScanOf scan.old (Standing.means session.old).standing (means self.old).journal }
+        ensures ok { IfOk result (λ turned. AddsOfStream (means self.old) (means self.new) (Standing.means session.old).standing caller (λ e. IsTurned (Standing.means session.old).stream turned e × HasGoneOn (Standing.means session.old) (Standing.means session.new) true e)) }
+        ensures session { OnErr result (IsSameSession (Standing.means session.old) (Standing.means session.new)) }
+        ensures scan { IsScanOf scan.new (Standing.means session.new).standing (means self.new).journal }
+        ensures fault { IfErr result (IsFault (means self.old) (means self.new) (IsTimeWorn (means self.old) (Standing.means session.old).standing.time)) }
+        ensures spent { self.old.spent ≡ true → result ≡ Err faults.NoMemory }
+    {
+        let time = self.diary.begin(session.time())?;
+        let entries = self.diary.journal().entries();
+        let event = next_turn(self.alloc, &self.stores, entries, session, scan, time)?;
+        let turned = kind_of(&event);
+        note(session, &event, time);
+        self.diary.finish(time, caller, event);
+        Ok(turned)
+    }
+
     /// Sends the checkpoint of the stream's names, at its source ("PRACTI Replication", NSDI 2006, section 3.3), up to
-    /// the node's vector. It takes the time of `pr_snap::build`.
+    /// the node's vector. It takes the time of `pr_snap::build`, and copies the message once, for the answer.
     pub fn checkpoint(&mut self, caller: u32, session: &mut Session) -> Result<Msg, NodeFault>
         requires { IsTrue (Standing.means session.old).attached }
         ensures grammar { IfOk result IsMessage }
@@ -391,13 +421,27 @@ impl Node {
         ensures spent { self.old.spent ≡ true → result ≡ Err faults.NoMemory }
     {
         let time = self.diary.begin(session.time())?;
-        let _ = session.number();
-        let kind = snapshot(self.alloc, &self.stores, session.sub())?;
-        let msg = message(session, kind, time);
+        let msg = checkpoint(self.alloc, &self.stores, session, time)?;
         let sent = msg.copy(self.alloc)?;
         session.sent(self.stores.gaps.vector(), time);
         self.diary.sent(time, caller, sent);
         Ok(msg)
+    }
+
+    /// Sends the same checkpoint, for callers that find it where it stands, in the newest entry of the journal. It takes
+    /// the time of `pr_snap::build`, and copies nothing.
+    pub fn note_checkpoint(&mut self, caller: u32, session: &mut Session) -> Result<(), NodeFault>
+        requires { IsTrue (Standing.means session.old).attached }
+        ensures ok { OnOk result (AddsOfStream (means self.old) (means self.new) (Standing.means session.old).standing caller (λ e. IsCheckpointed (Standing.means session.old).stream e × HasGoneOn (Standing.means session.old) (Standing.means session.new) true e)) }
+        ensures session { OnErr result (IsSameSession (Standing.means session.old) (Standing.means session.new)) }
+        ensures fault { IfErr result (IsFault (means self.old) (means self.new) (IsTimeWorn (means self.old) (Standing.means session.old).standing.time)) }
+        ensures spent { self.old.spent ≡ true → result ≡ Err faults.NoMemory }
+    {
+        let time = self.diary.begin(session.time())?;
+        let msg = checkpoint(self.alloc, &self.stores, session, time)?;
+        session.sent(self.stores.gaps.vector(), time);
+        self.diary.sent(time, caller, msg);
+        Ok(())
     }
 
     /// Attaches the stream at its destination, and answers its start: per node the greatest covered clock up to which

@@ -8,6 +8,7 @@ mod call;
 mod expected;
 mod forging;
 mod frame;
+mod noting;
 mod random;
 mod same;
 mod site;

@@ -1,41 +1,69 @@
 // The turn of a stream at its source.
-ghost use Rattle.pr_inval.specs.Standing.{means};
+ghost use Rattle.pr_inval.specs.Standing.{IsSameSession, means};
 ghost use Rattle.pr_inval.specs.declared.kind.Kind.{Kind};
+ghost use Rattle.pr_node.specs.Grammar.{IsSendSpelled};
 ghost use Rattle.pr_node.specs.Scanning.{IsScanOf};
-ghost use Rattle.pr_node.specs.Sending.{IsBodyStep, IsNextStep, IsStepInRange, IsStepOf};
+ghost use Rattle.pr_node.specs.Sending.{IsBodyTurn, IsNextTurn, IsOfKind, IsTurnOf};
 ghost use Rattle.pr_node.specs.Ties.{IsTied};
-ghost use Rattle.pr_story.specs.Ranges.{IsKind, IsMsg};
+ghost use Rattle.pr_story.specs.Ranges.{IsInRange, IsKind, IsMsg};
 ghost use Rattle.pr_story.specs.Turns.{event_of};
 ghost use Rattle.pr_story.specs.declared.event.Event.TheVariants.{Sent};
-ghost use Rattle.std.specs.Prelude.{◌≡◌, ◌≤◌, ◌<◌, ◌+◌, ℕ, IfOk, IsTrue, reverse};
+ghost use Rattle.std.specs.Prelude.{◌≡◌, ◌≤◌, ◌<◌, ◌+◌, ℕ, IfOk, IsTrue, OnOk, reverse};
 ghost use Rattle.pr_story.specs.Sessions.{HasGoneOn};
 
 use crate::ahead::ahead;
 use crate::waiting_bodies::next_body;
-use crate::{Scan, Stores};
+use crate::{Scan, Stores, Turned};
 use pr_inval::{Kind, Msg, Session, Step};
 use pr_stamps::NoMemory;
-use pr_story::Entry;
+use pr_story::{Entry, Event};
+use pr_vectors::PackedVector;
 use std::alloc::Global;
 
-// What the source of a stream with this session does next, where its node has made these entries.
-pub fn next_step(
+// The event of the turn of a stream with this session, at its source, where its node has made these entries. The session
+// has room to note it.
+pub fn next_turn(
+    alloc: Global,
+    stores: &Stores,
+    entries: &[Entry],
+    session: &mut Session,
+    scan: &mut Scan,
+    time: u64,
+) -> Result<Event, NoMemory>
+    requires later { (means session.old).standing.time < time }
+    requires most { time ≤ 4611686018427387903 }
+    requires scan { IsScanOf scan.old (means session.old).standing (reverse entries.now) }
+    ensures next { IfOk result (λ event. (n : ℕ) → IsTied n (reverse entries.now) stores.now → IsNextTurn n (reverse entries.now) (means session.old) time event) }
+    ensures spelled { IfOk result (λ event. (n : ℕ) → IsTied n (reverse entries.now) stores.now → IsSendSpelled event) }
+    ensures range { IfOk result IsInRange }
+    ensures same { IsSameSession (means session.old) (means session.new) }
+    ensures room { OnOk result (0 < (means session.new).room) }
+    ensures scan { (n : ℕ) → IsTied n (reverse entries.now) stores.now → IsScanOf scan.new (means session.new).standing (reverse entries.now) }
+{
+    let _ = session.number();
+    session.room()?;
+    next_event(alloc, stores, entries, session, scan, time)
+}
+
+fn next_event(
     alloc: Global,
     stores: &Stores,
     entries: &[Entry],
     session: &Session,
     scan: &mut Scan,
     time: u64,
-) -> Result<Step, NoMemory>
+) -> Result<Event, NoMemory>
     requires scan { IsScanOf scan.old (means session.now).standing (reverse entries.now) }
-    ensures next { IfOk result (λ step. (n : ℕ) → IsTied n (reverse entries.now) stores.now → IsNextStep n (reverse entries.now) (means session.now) time step) }
+    ensures next { IfOk result (λ event. (n : ℕ) → IsTied n (reverse entries.now) stores.now → IsNextTurn n (reverse entries.now) (means session.now) time event) }
     ensures scan { (n : ℕ) → IsTied n (reverse entries.now) stores.now → IsScanOf scan.new (means session.now).standing (reverse entries.now) }
-    ensures range { IfOk result IsStepInRange }
+    ensures range { IfOk result IsInRange }
 {
-    let cut = stores.log.cut_at();
+    let stream = session.stream();
     let position = session.pos();
+    let cut = stores.log.cut_at();
     if !cut.le(position) {
-        return Ok(Step::Stale { cut: *cut });
+        let cut = PackedVector::of(alloc, cut)?;
+        return Ok(Event::Stale { stream, cut });
     }
     if !stores.log.vector().le(position) {
         return ahead(alloc, &stores.log, session.sub(), position, session, time);
@@ -43,7 +71,7 @@ pub fn next_step(
     if session.bodies() {
         return send_body(alloc, stores, entries, session, scan, time);
     }
-    Ok(Step::Idle)
+    Ok(Event::Idle { stream })
 }
 
 // Sends the next body, if there is one.
@@ -54,15 +82,19 @@ fn send_body(
     session: &Session,
     scan: &mut Scan,
     time: u64,
-) -> Result<Step, NoMemory>
+) -> Result<Event, NoMemory>
     requires scan { IsScanOf scan.old (means session.now).standing (reverse entries.now) }
-    ensures next { IfOk result (λ step. (n : ℕ) → IsTied n (reverse entries.now) stores.now → IsBodyStep (reverse entries.now) (means session.now) time step) }
+    ensures next { IfOk result (λ event. (n : ℕ) → IsTied n (reverse entries.now) stores.now → IsBodyTurn (reverse entries.now) (means session.now) time event) }
     ensures scan { (n : ℕ) → IsTied n (reverse entries.now) stores.now → IsScanOf scan.new (means session.now).standing (reverse entries.now) }
-    ensures range { IfOk result IsStepInRange }
+    ensures range { IfOk result IsInRange }
 {
     match next_body(alloc, stores, entries, session, scan)? {
-        Some(kind) => Ok(Step::Sent(message(session, kind, time))),
-        None => Ok(Step::Idle),
+        Some(kind) => Ok(Event::Sent {
+            msg: message(session, kind, time),
+        }),
+        None => Ok(Event::Idle {
+            stream: session.stream(),
+        }),
     }
 }
 
@@ -84,19 +116,46 @@ pub fn message(session: &Session, kind: Kind, time: u64) -> Msg
     }
 }
 
+// What a turn with this event answers, with a copy of its message.
+pub fn step_of(alloc: Global, event: &Event) -> Result<Step, NoMemory>
+    requires { (stream : ℕ) × IsTurnOf stream event.now }
+    ensures { IfOk result (λ step. (stream : ℕ) → IsTurnOf stream event.now → event.now ≡ event_of stream step) }
+{
+    match event {
+        Event::Sent { msg } => Ok(Step::Sent(msg.copy(alloc)?)),
+        Event::Idle { .. } => Ok(Step::Idle),
+        Event::Stale { cut, .. } => Ok(Step::Stale { cut: cut.get() }),
+        _ => unreachable!(),
+    }
+}
+
+// Which kind of turn the event is.
+pub fn kind_of(event: &Event) -> Turned
+    requires { (stream : ℕ) × IsTurnOf stream event.now }
+    ensures { IsOfKind result event.now }
+{
+    match event {
+        Event::Sent { .. } => Turned::Sent,
+        Event::Idle { .. } => Turned::Idle,
+        Event::Stale { .. } => Turned::Stale,
+        _ => unreachable!(),
+    }
+}
+
 // The session notes its turn at this time. It takes no memory.
-pub fn note(session: &mut Session, step: &Step, time: u64)
+pub fn note(session: &mut Session, event: &Event, time: u64)
     requires attached { IsTrue (means session.old).attached }
     requires later { (means session.old).standing.time < time }
     requires most { time ≤ 4611686018427387903 }
     requires room { 0 < (means session.old).room }
-    requires stream { IsStepOf (means session.old).stream step.now }
-    ensures { (caller : ℕ) → HasGoneOn (means session.old) (means session.new) (means session.old).attached (record { time = time; caller = caller; event = event_of (means session.old).stream step.now }) }
+    requires turn { IsTurnOf (means session.old).stream event.now }
+    ensures { (caller : ℕ) → HasGoneOn (means session.old) (means session.new) (means session.old).attached (record { time = time; caller = caller; event = event.now }) }
 {
-    match step {
-        Step::Sent(msg) => note_sent(session, &msg.kind, time),
-        Step::Idle => session.heard(time),
-        Step::Stale { .. } => session.heard(time),
+    match event {
+        Event::Sent { msg } => note_sent(session, &msg.kind, time),
+        Event::Idle { .. } => session.heard(time),
+        Event::Stale { .. } => session.heard(time),
+        _ => unreachable!(),
     }
 }
 
