@@ -5,8 +5,7 @@ use Rattle.std.proofs.lemmas.List.{append-nil, append_assoc, append_cancel_right
 use Rattle.std.specs.Io.{StartsWith}
 use Rattle.pr_inval.specs.declared.msg.Msg.{Msg}
 use Rattle.pr_inval.specs.declared.node_fault.NodeFault.{NodeFault}
-use Rattle.pr_inval.specs.declared.step.Step.{Step}
-use Rattle.pr_inval.specs.declared.step.Step.TheVariants as steps
+use Rattle.pr_node.specs.declared.answers.turned.Turned.TheVariants as turned
 use Rattle.pr_inval.specs.declared.taken.Taken.{Taken}
 use Rattle.pr_inval.specs.declared.taken.Taken.TheVariants as taken
 use Rattle.pr_flow.specs.declared.flow_end.FlowEnd.{FlowEnd}
@@ -24,7 +23,7 @@ use Rattle.pr_story.specs.declared.event.Event.{Event}
 use Rattle.pr_story.specs.declared.event.Event.TheVariants.{Wrote, Attached, Sent, Idle, Stale, Accepted, Gapped, Missing, Down, Answered, Behind, Moved, Cut, Dropped, Conflicts, State}
 use Rattle.pr_story.specs.History.{NodeEntry}
 use Rattle.pr_story.specs.Scripts.{AreTurns, events_of}
-use Rattle.pr_story.specs.Turns.{event_of}
+use Rattle.pr_sim.specs.Commands.{IsTurnMade}
 use Rattle.pr_story.specs.Counts.{Declared}
 use Rattle.pr_wire.specs.Spelling.{spelling}
 use Rattle.pr_wire.specs.declared.format.Format.TheVariants.{Two}
@@ -118,13 +117,11 @@ cut_crosses s m cause a b made none cut (put, got, moves, (front, part)) is =
 
 -- ---- a turn
 
-pub idle_crosses : (s : ℕ) (step : Step) (a : WireState) (made : NodeEntry) → step ≡ steps.Idle → made.entry.event ≡ event_of s step → Crosses a a s None ends.Done (made.entry.event ∷ [])
-idle_crosses s step a made is event =
-    subst (λ (v : Event). Crosses a a s None ends.Done (v ∷ [])) (sym (event ∙ ap (λ (x : Step). event_of s x) is)) ([], grows_none a.taken a.taken refl, refl)
+pub idle_crosses : (s : ℕ) (a : WireState) (made : NodeEntry) → IsTurnMade s turned.Idle made → Crosses a a s None ends.Done (made.entry.event ∷ [])
+idle_crosses s a made event = subst (λ (v : Event). Crosses a a s None ends.Done (v ∷ [])) (sym event) ([], grows_none a.taken a.taken refl, refl)
 
-pub stale_crosses : (s : ℕ) (step : Step) (cut : List ℕ) (a : WireState) (made : NodeEntry) → step ≡ steps.Stale cut → made.entry.event ≡ event_of s step → Crosses a a s None ends.Stale (made.entry.event ∷ [])
-stale_crosses s step cut a made is event =
-    subst (λ (v : Event). Crosses a a s None ends.Stale (v ∷ [])) (sym (event ∙ ap (λ (x : Step). event_of s x) is)) ([], grows_none a.taken a.taken refl, refl)
+pub stale_crosses : (s : ℕ) (a : WireState) (made : NodeEntry) → IsTurnMade s turned.Stale made → Crosses a a s None ends.Stale (made.entry.event ∷ [])
+stale_crosses s a made (cut, event) = subst (λ (v : Event). Crosses a a s None ends.Stale (v ∷ [])) (sym event) ([], grows_none a.taken a.taken refl, refl)
 
 pub sent_crosses : (a b : WireState) (s : ℕ) (m : Msg) (made : NodeEntry) (end : FlowEnd) (events : List Event) → made.entry.event ≡ Sent m → Crosses a b s (Some m) end events → Crosses a b s None end (made.entry.event ∷ events)
 sent_crosses a b s m made end events is (part, grows, left) = subst (λ (v : Event). Crosses a b s None end (v ∷ events)) (sym is) (part, grows, rest end left)

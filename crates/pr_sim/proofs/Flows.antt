@@ -1,12 +1,13 @@
 -- A flow, turn by turn.
-use Rattle.std.proofs.Common.{◌≡◌, ◌≢◌, ℕ, ◌+◌, ◌-◌, ◌<◌, List, [], ◌∷◌, ◌++◌, Result, Ok, Err, IsErrAnd, inl, inr, refl, sym, ◌∙◌, ap, subst, length, get_or, reverse, arith}
+use Rattle.std.proofs.Common.{◌≡◌, ◌≢◌, ℕ, ◌+◌, ◌-◌, ◌<◌, List, [], ◌∷◌, ◌++◌, Result, Ok, Err, IsErrAnd, inr, refl, sym, ◌∙◌, ap, subst, length, get_or, reverse, arith}
 use Rattle.std.specs.Prelude.{Bool, IsTrue, Some, None, Option}
 use Rattle.std.proofs.lemmas.List.{append_assoc, reverse-append}
 use Rattle.std.proofs.lemmas.Result.{err_from_is_err_and}
 use Rattle.pr_inval.specs.declared.msg.Msg.{Msg}
 use Rattle.pr_inval.specs.declared.node_fault.NodeFault.{NodeFault}
-use Rattle.pr_inval.specs.declared.step.Step.{Step}
 use Rattle.pr_inval.specs.declared.step.Step.TheVariants as steps
+use Rattle.pr_node.specs.declared.answers.turned.Turned.{Turned}
+use Rattle.pr_node.specs.declared.answers.turned.Turned.TheVariants as turned
 use Rattle.pr_inval.specs.declared.taken.Taken.{Taken}
 use Rattle.pr_inval.specs.declared.taken.Taken.TheVariants as taken
 use Rattle.pr_inval.specs.Standing.{Remembered}
@@ -14,7 +15,7 @@ use Rattle.pr_inval.specs.Standing as session
 use Rattle.pr_flow.specs.declared.flow_end.FlowEnd.{FlowEnd}
 use Rattle.pr_flow.specs.declared.flow_end.FlowEnd.TheVariants as ends
 use Rattle.pr_flow.specs.Moving.{IsCut}
-use Rattle.pr_node.specs.Calls.{Adds, IsDownFor, IsTaken}
+use Rattle.pr_node.specs.Calls.{Adds, IsDownFor, IsStep, IsTaken}
 use Rattle.pr_node.specs.Stored.{Stored, means}
 use Rattle.pr_story.specs.declared.cause.Cause.{Cause}
 use Rattle.pr_story.specs.declared.cause.Cause.TheVariants.{Failed, Ended, Gap}
@@ -28,12 +29,12 @@ use Rattle.pr_story.specs.Places as story
 use Rattle.pr_story.specs.Places.{sent_places}
 use Rattle.pr_story.specs.Scripts.{AreTurns, events_of}
 use Rattle.pr_story.specs.Sessions.{HasGoneOn}
-use Rattle.pr_story.specs.Turns.{IsAttached, event_of, Attaches}
+use Rattle.pr_story.specs.Turns.{IsAttached, Attaches}
 use Rattle.pr_inval.specs.Messages.{IsMessage}
 use Rattle.pr_wires.specs.Calls.{WireState}
 use Rattle.pr_sim.proofs.Scans.{scans_more}
 use Rattle.pr_sim.specs.Commands.{Grows, IsCause, IsTurnMade, MakesOne}
-use Rattle.pr_sim.specs.Flowing.{CanGoDown, IsBegun, IsDownMade, IsOnTheWay, LeadsTo, TurnsEnd}
+use Rattle.pr_sim.specs.Flowing.{CanGoDown, IsBegun, IsDownMade, IsJustSent, IsOnTheWay, LeadsTo, TurnsEnd}
 use Rattle.pr_merge.specs.Holding.{IsSession}
 use Rattle.pr_sim.specs.Running.{HasAttached, IsRunning, Tells, AreScans}
 use Rattle.pr_story.specs.Counts.{Declared}
@@ -171,31 +172,30 @@ down_is s left m cause made no_gap is = subst (λ (v : Event). AreTurns s (Some 
 less_one : (s left : ℕ) (under : Option Msg) (events : List Event) → AreTurns s under left events → AreTurns s under (left + 1 - 1) events
 less_one s left under events are = subst (λ (k : ℕ). AreTurns s under k events) (let e : left ≡ left + 1 - 1 = omega arith in e) are
 
-pub idle_leads : (s left : ℕ) (step : Step) (made : NodeEntry) → step ≡ steps.Idle → made.entry.event ≡ event_of s step → LeadsTo s None (left + 1) left (made.entry.event ∷ [])
-idle_leads s left step made is event rest next =
-    subst (λ (v : Event). AreTurns s None (left + 1) (v ∷ rest)) (sym (event ∙ ap (λ (x : Step). event_of s x) is)) (omega arith, refl, less_one s left None rest next)
+pub idle_leads : (s left : ℕ) (made : NodeEntry) → IsTurnMade s turned.Idle made → LeadsTo s None (left + 1) left (made.entry.event ∷ [])
+idle_leads s left made event rest next = subst (λ (v : Event). AreTurns s None (left + 1) (v ∷ rest)) (sym event) (omega arith, refl, less_one s left None rest next)
 
-pub stale_ends : (s left : ℕ) (step : Step) (cut : List ℕ) (made : NodeEntry) → step ≡ steps.Stale cut → made.entry.event ≡ event_of s step → AreTurns s None (left + 1) (made.entry.event ∷ [])
-stale_ends s left step cut made is event =
-    subst (λ (v : Event). AreTurns s None (left + 1) (v ∷ [])) (sym (event ∙ ap (λ (x : Step). event_of s x) is)) (omega arith, refl, refl)
+pub stale_ends : (s left : ℕ) (made : NodeEntry) → IsTurnMade s turned.Stale made → AreTurns s None (left + 1) (made.entry.event ∷ [])
+stale_ends s left made (cut, event) = subst (λ (v : Event). AreTurns s None (left + 1) (v ∷ [])) (sym event) (omega arith, refl, refl)
 
--- a turn that sent this message
-pub sent_step : (s : ℕ) (step : Step) (m : Msg) (made : NodeEntry) → step ≡ steps.Sent m → IsTurnMade s step made → IsTurnMade s (steps.Sent m) made
-sent_step s step m made is turned = subst (λ (x : Step). IsTurnMade s x made) is turned
+-- a turn of this kind
+pub turn_as : (s : ℕ) (t kind : Turned) (made : NodeEntry) → t ≡ kind → IsTurnMade s t made → IsTurnMade s kind made
+turn_as s t kind made is turn = subst (λ (x : Turned). IsTurnMade s x made) is turn
 
-pub on_the_way : (s : ℕ) (m : Msg) (made : NodeEntry) (h : List NodeEntry) → IsTurnMade s (steps.Sent m) made → IsAttached h s → IsOnTheWay (made ∷ h) s m
-on_the_way s m made h (event, (of, kind, good)) on = (inl (subst (λ (v : Event). Sends v m) (sym event) refl), of, inr on)
+-- the message that it sent
+pub just_sent : (s : ℕ) (made : NodeEntry) (h : List NodeEntry) (turn : IsTurnMade s turned.Sent made) → IsJustSent (made ∷ h) s turn.0
+just_sent s made h (msg, (event, of, kind), good) = (made, h, refl, event, of)
 
-sent_more : (s left : ℕ) (m : Msg) (made : NodeEntry) (events : List Event) → IsTurnMade s (steps.Sent m) made → AreTurns s (Some m) left events → AreTurns s None (left + 1) (made.entry.event ∷ events)
-sent_more s left m made events (event, (of, kind, good)) are =
+sent_more : (s left : ℕ) (m : Msg) (made : NodeEntry) (events : List Event) → IsStep s (steps.Sent m) made.entry → AreTurns s (Some m) left events → AreTurns s None (left + 1) (made.entry.event ∷ events)
+sent_more s left m made events (event, of, kind) are =
     subst (λ (v : Event). AreTurns s None (left + 1) (v ∷ events)) (sym event) (omega arith, of, kind, less_one s left (Some m) events are)
 
-pub sent_ends : (s left : ℕ) (m : Msg) (made : NodeEntry) (end : FlowEnd) (events : List Event) → IsTurnMade s (steps.Sent m) made → TurnsEnd s (Some m) left left end events → TurnsEnd s None (left + 1) left end (made.entry.event ∷ events)
+pub sent_ends : (s left : ℕ) (m : Msg) (made : NodeEntry) (end : FlowEnd) (events : List Event) → IsStep s (steps.Sent m) made.entry → TurnsEnd s (Some m) left left end events → TurnsEnd s None (left + 1) left end (made.entry.event ∷ events)
 sent_ends s left m made ends.Done events turned leads = λ rest next. sent_more s left m made (events ++ rest) turned (leads rest next)
 sent_ends s left m made (ends.Lied number sent got) events turned ((rest, are), (msg, of, lie, (before, is))) =
     ((rest, sent_more s left m made (events ++ rest) turned are), (msg, of, lie, (before, ap (λ (v : Event). v ∷ events) turned.0 ∙ is)))
 sent_ends s left m made ends.Stale events turned are = sent_more s left m made events turned are
 sent_ends s left m made (ends.Down cause) events turned are = sent_more s left m made events turned are
 
-pub sent_begins : (s left : ℕ) (m : Msg) (made : NodeEntry) (events : List Event) → IsTurnMade s (steps.Sent m) made → IsBegun s (Some m) left events → IsBegun s None (left + 1) (made.entry.event ∷ events)
+pub sent_begins : (s left : ℕ) (m : Msg) (made : NodeEntry) (events : List Event) → IsStep s (steps.Sent m) made.entry → IsBegun s (Some m) left events → IsBegun s None (left + 1) (made.entry.event ∷ events)
 sent_begins s left m made events turned (rest, are) = (rest, sent_more s left m made (events ++ rest) turned are)

@@ -22,6 +22,7 @@ pub mod Advancing
 pub mod Resting
 pub mod Settled
 pub mod StillKept
+pub mod JustSent
 pub mod Flows
 pub mod GoesDown
 pub mod Turns

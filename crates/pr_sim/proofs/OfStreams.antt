@@ -5,33 +5,32 @@ use Rattle.std.proofs.lemmas.Bool.{cases_eq}
 use Rattle.std.proofs.lemmas.Bool.Decides.{Decides-eqb}
 use Rattle.pr_stamps.specs.Kept.{Kept}
 use Rattle.pr_inval.specs.declared.msg.Msg.{Msg}
-use Rattle.pr_inval.specs.declared.step.Step.{Step}
-use Rattle.pr_inval.specs.declared.step.Step.TheVariants as steps
 use Rattle.pr_inval.specs.Standing.{HasDetached, Remembered, SessionMeaning, Standing}
 use Rattle.pr_inval.specs.Standing as session
-use Rattle.pr_node.specs.Calls.{Adds, IsAttachedAt, IsCheckpointSent, IsStep}
+use Rattle.pr_node.specs.declared.answers.turned.Turned.{Turned}
+use Rattle.pr_node.specs.declared.answers.turned.Turned.TheVariants as turned
+use Rattle.pr_node.specs.Calls.{Adds, IsAttachedAt, IsCheckpointed, IsTurned}
 use Rattle.pr_story.specs.Sessions.{HasGoneOn}
-use Rattle.pr_node.specs.Grammar.{IsStepSpelled}
 use Rattle.pr_node.specs.Stored.{Stored, means}
 use Rattle.pr_story.specs.declared.entry.Entry.{Entry}
 use Rattle.pr_story.specs.declared.event.Event.{Event}
-use Rattle.pr_story.specs.declared.event.Event.TheVariants.{Attached, Sent, Idle, Stale}
+use Rattle.pr_story.specs.declared.event.Event.TheVariants.{Attached, Sent}
 use Rattle.pr_story.specs.Clients.{client_vector, is_of_client}
 use Rattle.pr_story.specs.Commands.{Gives, ToAttach, ToCheckpoint, ToSend}
 use Rattle.pr_story.specs.History.{Plan, NodeEntry, Sends, journal}
 use Rattle.pr_story.specs.Lawful.{HasCause, IsPlaced, last_time}
 use Rattle.pr_story.specs.Laws.{StandsFor}
 use Rattle.pr_story.specs.Scripts.{Detach, Single, attached_after}
-use Rattle.pr_story.specs.Turns.{Attaches, IsAttached, event_of, is_of_stream, stream_time}
+use Rattle.pr_story.specs.Turns.{Attaches, IsAttached, is_of_stream, stream_time}
 use Rattle.pr_story.proofs.Short.{valid_short}
 use Rattle.pr_inval.specs.Messages.{IsMessage}
 use Rattle.std.proofs.lemmas.List.{length-set}
-use Rattle.pr_sim.specs.Commands.{GivesIt, IsCheckpointOf, IsStepOf, MakesOne}
+use Rattle.pr_sim.specs.Commands.{GivesIt, MakesOne}
 use Rattle.pr_merge.specs.Holding.{AreSessions, IsSession}
 use Rattle.pr_sim.specs.Running.{AreClients, AreNodes, AreRoutes, AreSent, IsRunning, Stands, AreScans}
 use Rattle.pr_story.specs.Counts.{Declared}
 use Rattle.pr_story.specs.Places as story
-use Rattle.pr_sim.specs.Places.{HasNoted, OfStream}
+use Rattle.pr_sim.specs.Places.{HasNoted}
 use Rattle.pr_story.specs.Places.{sent_places}
 use Rattle.pr_sim.specs.declared.engine.Engine.{Engine}
 use Rattle.pr_sim.specs.declared.engine.Route.{Route}
@@ -80,7 +79,10 @@ index_more e h before now s place are known others is noted t d lt = by t (let l
 pub index_roomy : (h : List NodeEntry) (before now : List (Kept ℕ)) → length now ≡ length before → ((s : ℕ) (d : Kept ℕ) → (get_or now s d).items ≡ (get_or before s d).items) → AreSent h before → AreSent h now
 index_roomy h before now many same are s d lt = same s d ∙ are s d (omega arith)
 
--- ---- what a step is
+still : (s : ℕ) (before : List (Kept ℕ)) → HasNoted before before s (λ xs. xs)
+still s before = record { many = refl; here = λ d. refl; room = λ d. omega arith; there = λ t d other. refl }
+
+-- ---- what a turn is
 
 -- all that is asked of the event of an attached stream at its source
 pub record IsAtSource (plan : Plan) (h : List NodeEntry) (n s : ℕ) (event : Event) : Type 0 where
@@ -99,52 +101,48 @@ at_source plan h n s msg at attached is good = record {
   stays = λ t bad. absurd bad;
 }
 
-pub step_at_source : (plan : Plan) (h : List NodeEntry) (n s stream : ℕ) (step : Step) (entry : Entry) → stream ≡ s → n ≡ (plan.stream s).source → IsAttached h s → IsStepSpelled step → IsStep stream step entry
-    → IsAtSource plan h n s entry.event
-step_at_source plan h n s stream (steps.Sent msg) entry same at attached good (event, of, kind) =
-    subst (λ (v : Event). IsAtSource plan h n s v) (sym event) (at_source plan h n s msg at attached (of ∙ same) good)
-step_at_source plan h n s stream steps.Idle entry same at attached good event =
-    subst (λ (v : Event). IsAtSource plan h n s v) (sym (event ∙ ap (λ (t : ℕ). Idle t) same)) (record { of = idle_is s; placed = at; cause = attached; sends = λ m bad. absurd bad; stays = λ t bad. absurd bad })
-step_at_source plan h n s stream (steps.Stale cut) entry same at attached good event =
-    subst (λ (v : Event). IsAtSource plan h n s v) (sym (event ∙ ap (λ (t : ℕ). Stale t cut) same)) (record { of = stale_is s cut; placed = at; cause = attached; sends = λ m bad. absurd bad; stays = λ t bad. absurd bad })
+pub turn_at_source : (plan : Plan) (h : List NodeEntry) (n s : ℕ) (t : Turned) (entry : Entry) → n ≡ (plan.stream s).source → IsAttached h s → IsTurned s t entry → IsAtSource plan h n s entry.event
+turn_at_source plan h n s turned.Sent entry at attached (msg, (event, of, kind), good) = subst (λ (v : Event). IsAtSource plan h n s v) (sym event) (at_source plan h n s msg at attached of good)
+turn_at_source plan h n s turned.Idle entry at attached event =
+    subst (λ (v : Event). IsAtSource plan h n s v) (sym event) (record { of = idle_is s; placed = at; cause = attached; sends = λ m bad. absurd bad; stays = λ t bad. absurd bad })
+turn_at_source plan h n s turned.Stale entry at attached (cut, event) =
+    subst (λ (v : Event). IsAtSource plan h n s v) (sym event) (record { of = stale_is s cut; placed = at; cause = attached; sends = λ m bad. absurd bad; stays = λ t bad. absurd bad })
 
-pub checkpoint_at_source : (plan : Plan) (h : List NodeEntry) (n s stream : ℕ) (msg : Msg) (entry : Entry) → stream ≡ s → n ≡ (plan.stream s).source → IsAttached h s → IsMessage msg → IsCheckpointSent stream msg entry
-    → IsAtSource plan h n s entry.event
-checkpoint_at_source plan h n s stream msg entry same at attached good (event, of, kind) =
-    subst (λ (v : Event). IsAtSource plan h n s v) (sym event) (at_source plan h n s msg at attached (of ∙ same) good)
-
--- the event is that of the step
-pub step_is : (s stream : ℕ) (step : Step) (entry : Entry) → stream ≡ s → IsStepSpelled step → IsStep stream step entry → (entry.event ≡ event_of s step) × IsStepOf s step
-step_is s stream (steps.Sent msg) entry same good (event, of, kind) = (event, (of ∙ same, kind, good))
-step_is s stream steps.Idle entry same good event = (event ∙ ap (λ (t : ℕ). Idle t) same, tt)
-step_is s stream (steps.Stale cut) entry same good event = (event ∙ ap (λ (t : ℕ). Stale t cut) same, tt)
-
-pub checkpoint_is : (s stream : ℕ) (msg : Msg) (entry : Entry) → stream ≡ s → IsMessage msg → IsCheckpointSent stream msg entry → (entry.event ≡ Sent msg) × IsCheckpointOf s msg
-checkpoint_is s stream msg entry same good (event, of, kind) = (event, (of ∙ same, kind, good))
+pub checkpoint_at_source : (plan : Plan) (h : List NodeEntry) (n s : ℕ) (entry : Entry) → n ≡ (plan.stream s).source → IsAttached h s → IsCheckpointed s entry → IsAtSource plan h n s entry.event
+checkpoint_at_source plan h n s entry at attached (msg, (event, of, kind), good) = subst (λ (v : Event). IsAtSource plan h n s v) (sym event) (at_source plan h n s msg at attached of good)
 
 -- the commands that give them
-pub turn_gives : (s n : ℕ) (step : Step) (event : Event) → event ≡ event_of s step → IsStepOf s step → Gives (ToSend s) n event
-turn_gives s n (steps.Sent msg) event is (of, kind, good) = subst (λ (v : Event). Gives (ToSend s) n v) (sym is) (of, kind)
-turn_gives s n steps.Idle event is good = subst (λ (v : Event). Gives (ToSend s) n v) (sym is) refl
-turn_gives s n (steps.Stale cut) event is good = subst (λ (v : Event). Gives (ToSend s) n v) (sym is) refl
+pub turn_gives : (s n : ℕ) (t : Turned) (entry : Entry) → IsTurned s t entry → Gives (ToSend s) n entry.event
+turn_gives s n turned.Sent entry (msg, (event, of, kind), good) = subst (λ (v : Event). Gives (ToSend s) n v) (sym event) (of, kind)
+turn_gives s n turned.Idle entry event = subst (λ (v : Event). Gives (ToSend s) n v) (sym event) refl
+turn_gives s n turned.Stale entry (cut, event) = subst (λ (v : Event). Gives (ToSend s) n v) (sym event) refl
 
-pub checkpoint_gives : (s n : ℕ) (msg : Msg) (event : Event) → event ≡ Sent msg → IsCheckpointOf s msg → Gives (ToCheckpoint s) n event
-checkpoint_gives s n msg event is (of, kind, good) = subst (λ (v : Event). Gives (ToCheckpoint s) n v) (sym is) (of, kind)
+pub checkpoint_gives : (s n : ℕ) (entry : Entry) → IsCheckpointed s entry → Gives (ToCheckpoint s) n entry.event
+checkpoint_gives s n entry (msg, (event, of, kind), good) = subst (λ (v : Event). Gives (ToCheckpoint s) n v) (sym event) (of, kind)
 
--- the event of a step notes what the step notes
-pub step_noted : (s stream place : ℕ) (step : Step) (entry : Entry) (before now : List (Kept ℕ)) → stream ≡ s → IsStep stream step entry
-    → ((own : OfStream s step) → HasNoted before now s (story.sent_after (event_of s step) s place)) → HasNoted before now s (story.sent_after entry.event s place)
-step_noted s stream place (steps.Sent msg) entry before now same (event, of, kind) noted = subst (λ (v : Event). HasNoted before now s (story.sent_after v s place)) (sym event) (noted (of ∙ same))
-step_noted s stream place steps.Idle entry before now same event noted = subst (λ (v : Event). HasNoted before now s (story.sent_after v s place)) (sym event) (noted tt)
-step_noted s stream place (steps.Stale cut) entry before now same event noted = subst (λ (v : Event). HasNoted before now s (story.sent_after v s place)) (sym event) (noted tt)
-
-pub noted_of : (s : ℕ) (msg : Msg) (place : ℕ) (before now : List (Kept ℕ)) → msg.stream ≡ s → HasNoted before now s (λ xs. xs ++ place ∷ []) → HasNoted before now s (story.sent_after (Sent msg) s place)
-noted_of s msg place before now same noted = record {
+-- a place was noted for the message that was sent
+noted_of : (s place : ℕ) (msg : Msg) (event : Event) (before now : List (Kept ℕ)) → event ≡ Sent msg → msg.stream ≡ s → HasNoted before now s (λ xs. xs ++ place ∷ []) → HasNoted before now s (story.sent_after event s place)
+noted_of s place msg event before now is same noted = subst (λ (v : Event). HasNoted before now s (story.sent_after v s place)) (sym is) (record {
   many = noted.many;
   here = λ d. noted.here d ∙ sym (ap (λ (b : Bool). cond b ((get_or before s d).items ++ place ∷ []) (get_or before s d).items) ((Decides-eqb msg.stream s).1 same));
   room = noted.room;
   there = noted.there;
-}
+})
+
+pub checkpoint_noted : (s place : ℕ) (entry : Entry) (before now : List (Kept ℕ)) → IsCheckpointed s entry → HasNoted before now s (λ xs. xs ++ place ∷ []) → HasNoted before now s (story.sent_after entry.event s place)
+checkpoint_noted s place entry before now (msg, (event, of, kind), good) noted = noted_of s place msg entry.event before now event of noted
+
+pub turn_noted : (s place : ℕ) (t : Turned) (entry : Entry) (before now : List (Kept ℕ)) → t ≡ turned.Sent → IsTurned s t entry → HasNoted before now s (λ xs. xs ++ place ∷ []) → HasNoted before now s (story.sent_after entry.event s place)
+turn_noted s place t entry before now is made noted = by (subst (λ (k : Turned). IsTurned s k entry) is made)
+  where
+    by : IsTurned s turned.Sent entry → HasNoted before now s (story.sent_after entry.event s place)
+    by (msg, (event, of, kind), good) = noted_of s place msg entry.event before now event of noted
+
+-- nothing is noted where nothing was sent
+pub none_noted : (s place : ℕ) (t : Turned) (entry : Entry) (before : List (Kept ℕ)) → (t ≡ turned.Sent → ⊥) → IsTurned s t entry → HasNoted before before s (story.sent_after entry.event s place)
+none_noted s place turned.Sent entry before other made = absurd (other refl)
+none_noted s place turned.Idle entry before other event = subst (λ (v : Event). HasNoted before before s (story.sent_after v s place)) (sym event) (still s before)
+none_noted s place turned.Stale entry before other (cut, event) = subst (λ (v : Event). HasNoted before before s (story.sent_after v s place)) (sym event) (still s before)
 
 -- ---- one event of a stream
 

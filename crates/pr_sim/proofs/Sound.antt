@@ -4,8 +4,8 @@ use Rattle.std.specs.Prelude.{Bool, false, true, IsTrue}
 use Rattle.std.proofs.lemmas.List.{reverse-append, reverse-reverse}
 use Rattle.pr_inval.specs.declared.msg.Msg.{Msg}
 use Rattle.pr_inval.specs.declared.node_fault.NodeFault.{NodeFault}
-use Rattle.pr_inval.specs.declared.step.Step.{Step}
-use Rattle.pr_inval.specs.declared.step.Step.TheVariants as steps
+use Rattle.pr_node.specs.declared.answers.turned.Turned.{Turned}
+use Rattle.pr_node.specs.declared.answers.turned.Turned.TheVariants as turned
 use Rattle.pr_inval.specs.declared.taken.Taken.{Taken}
 use Rattle.pr_inval.specs.declared.taken.Taken.TheVariants as taken
 use Rattle.pr_flow.specs.declared.flow_end.FlowEnd.{FlowEnd}
@@ -20,9 +20,8 @@ use Rattle.pr_story.specs.declared.cause.Cause.TheVariants.{Failed, Ended, Gap}
 use Rattle.pr_story.specs.declared.event.Event.{Event}
 use Rattle.pr_story.specs.declared.event.Event.TheVariants.{Down, Gapped}
 use Rattle.pr_story.specs.History.{NodeEntry}
-use Rattle.pr_story.specs.Turns.{event_of}
 use Rattle.pr_wires.specs.Calls.{WireState}
-use Rattle.pr_sim.specs.Commands.{Grows}
+use Rattle.pr_sim.specs.Commands.{Grows, IsTurnMade}
 use Rattle.pr_sim.specs.Running.{IsRunning}
 use Rattle.pr_sim.specs.Sound.{AddsSound, GrowsSound}
 use Rattle.pr_sim.specs.declared.engine.Engine.{Engine}
@@ -55,13 +54,10 @@ gapped_sound m has made is = subst (λ (v : Event). IsSoundEvent v) (sym is) tt
 pub gap_sound : (s : ℕ) (made : NodeEntry) → made.entry.event ≡ Down s Gap → IsSoundEvent made.entry.event
 gap_sound s made is = subst (λ (v : Event). IsSoundEvent v) (sym is) tt
 
-pub turn_sound : (s : ℕ) (step : Step) (made : NodeEntry) → made.entry.event ≡ event_of s step → IsSoundEvent made.entry.event
-turn_sound s step made is = subst (λ (v : Event). IsSoundEvent v) (sym is) (by step)
-  where
-    by : (step : Step) → IsSoundEvent (event_of s step)
-    by (steps.Sent msg) = tt
-    by steps.Idle = tt
-    by (steps.Stale cut) = tt
+pub turn_sound : (s : ℕ) (t : Turned) (made : NodeEntry) → IsTurnMade s t made → IsSoundEvent made.entry.event
+turn_sound s turned.Sent made (msg, (event, of, kind), good) = subst (λ (v : Event). IsSoundEvent v) (sym event) tt
+turn_sound s turned.Idle made event = subst (λ (v : Event). IsSoundEvent v) (sym event) tt
+turn_sound s turned.Stale made (cut, event) = subst (λ (v : Event). IsSoundEvent v) (sym event) tt
 
 pub not_sound : (b : Bool) → IsTrue b → b ≡ false → ⊥
 not_sound b is other = let bad : true ≡ false = sym is ∙ other in absurd (cc)

@@ -8,14 +8,10 @@ use Rattle.pr_flow.specs.declared.stop.Stop.{Stop}
 use Rattle.pr_flow.specs.declared.stop.Stop.TheVariants as stops
 use Rattle.pr_stamps.specs.declared.no_memory.NoMemory.{NoMemory}
 use Rattle.pr_inval.specs.declared.msg.Msg.{Msg}
-use Rattle.pr_inval.specs.declared.step.Step.{Step}
-use Rattle.pr_inval.specs.declared.step.Step.TheVariants as steps
 use Rattle.pr_inval.specs.declared.taken.Taken.{Taken}
-use Rattle.pr_node.specs.Calls.{IsTaken}
-use Rattle.pr_story.specs.Commands.{Command, Gives, IsCheckpoint, IsNoCheckpoint}
-use Rattle.pr_story.specs.declared.event.Event.TheVariants.{Sent}
-use Rattle.pr_story.specs.Turns.{event_of}
-use Rattle.pr_inval.specs.Messages.{IsMessage}
+use Rattle.pr_node.specs.declared.answers.turned.Turned.{Turned}
+use Rattle.pr_node.specs.Calls.{IsCheckpointed, IsTaken, IsTurned}
+use Rattle.pr_story.specs.Commands.{Command, Gives}
 use Rattle.pr_story.specs.History.{NodeEntry}
 use Rattle.pr_story.specs.Scripts.{JobAfterJob, Line, LineBegins, LineGives, Single, attached_after}
 use Rattle.pr_sim.specs.Running.{IsRunning, Tells, below}
@@ -47,22 +43,13 @@ GivesOne command d attached h e r = MakesOne d (attached_after (Single command) 
 
 -- ---- a stream at its source
 
--- a message of the grammar that a turn of the stream sends; or none
-abbrev pub IsStepOf : ℕ → Step → Type 0
-IsStepOf s (steps.Sent msg) = (msg.stream ≡ s) × IsNoCheckpoint msg.kind × IsMessage msg
-IsStepOf s _ = Unit {0}
-
--- a checkpoint of the stream
-abbrev pub IsCheckpointOf : ℕ → Msg → Type 0
-IsCheckpointOf s msg = (msg.stream ≡ s) × IsCheckpoint msg.kind × IsMessage msg
-
--- the entry is that of the stream's turn
-abbrev pub IsTurnMade : ℕ → Step → NodeEntry → Type 0
-IsTurnMade s step made = (made.entry.event ≡ event_of s step) × IsStepOf s step
+-- the entry is that of the stream's turn, of this kind
+abbrev pub IsTurnMade : ℕ → Turned → NodeEntry → Type 0
+IsTurnMade s turned made = IsTurned s turned made.entry
 
 -- it is that of its checkpoint
-abbrev pub IsCheckpointMade : ℕ → Msg → NodeEntry → Type 0
-IsCheckpointMade s msg made = (made.entry.event ≡ Sent msg) × IsCheckpointOf s msg
+abbrev pub IsCheckpointMade : ℕ → Unit {0} → NodeEntry → Type 0
+IsCheckpointMade s done made = IsCheckpointed s made.entry
 
 -- it is that of a message that was taken at its destination
 abbrev pub IsTakingMade : Msg → Taken → NodeEntry → Type 0

@@ -72,6 +72,14 @@ IsOnTheWay h s msg = WasSent h msg × (msg.stream ≡ s) × IsAttached h s
 abbrev pub IsUnderWay : Engine → ℕ → Msg → Type 0
 IsUnderWay e s msg = (d : Declared) × (attached : ℕ → Bool) × (h : List NodeEntry) × IsRunning d attached h e × IsOnTheWay h s msg
 
+-- the newest entry sends this message of the stream
+abbrev pub IsJustSent : List NodeEntry → ℕ → Msg → Type 0
+IsJustSent h s msg = (sent : NodeEntry) × (before : List NodeEntry) × (h ≡ sent ∷ before) × (sent.entry.event ≡ Sent msg) × (msg.stream ≡ s)
+
+-- that of what the engine has run sends one
+abbrev pub HasJustSent : Engine → ℕ → Type 0
+HasJustSent e s = (d : Declared) × (attached : ℕ → Bool) × (h : List NodeEntry) × IsRunning d attached h e × ((msg : Msg) × IsJustSent h s msg)
+
 -- a message that came was accepted, or the flow went down behind a gap
 abbrev pub IsArrival : Result FlowEnd NodeFault → Type 0
 IsArrival (Ok ends.Done) = Unit {0}

@@ -4,7 +4,7 @@ ghost use Rattle.pr_inval.specs.declared.msg.Msg.{Msg};
 ghost use Rattle.pr_sim.specs.Commands.{ForEachRun, Grows, MakesOne};
 ghost use Rattle.pr_flow.specs.Flows.{crossed};
 ghost use Rattle.pr_sim.specs.Crossing.{Adds, Crosses, FlowCarries};
-ghost use Rattle.pr_sim.specs.Flowing.{AreFewWires, CanGoDown, FlowEndsSo, IsArrival, IsBegun, IsDownMade, IsOnTheWay, IsUnderWay, MovesOn, StopsByWires, StopsSo, TurnsEnd};
+ghost use Rattle.pr_sim.specs.Flowing.{AreFewWires, CanGoDown, FlowEndsSo, HasJustSent, IsArrival, IsBegun, IsDownMade, IsJustSent, IsOnTheWay, IsUnderWay, MovesOn, StopsByWires, StopsSo, TurnsEnd};
 ghost use Rattle.pr_sim.specs.Running.{HasAttached, IsKept};
 ghost use Rattle.pr_sim.specs.Sound.{AddsSound, GrowsSound};
 ghost use Rattle.pr_story.specs.History.{WasSent};
@@ -15,9 +15,11 @@ ghost use Rattle.pr_wire.specs.declared.format.Format.TheVariants.{Two};
 ghost use Rattle.std.specs.Prelude.{◌≡◌, ◌<◌, ◌+◌, ℕ, IsTrue, None, Some, length};
 
 use crate::engine::{CALLER, Engine};
+use crate::messages::last_sent;
 use crate::slots::route;
 use pr_flow::{Carried, FlowEnd, Stop, carry};
-use pr_inval::{Msg, NodeFault, Step, Taken};
+use pr_inval::{Msg, NodeFault, Taken};
+use pr_node::Turned;
 use pr_story::Cause;
 use pr_wires::{Wire, Wires};
 
@@ -93,23 +95,24 @@ impl Engine {
         ensures sound { ForEachRun self.old (λ d attached h. GrowsSound d attached h self.new result) }
     {
         match self.turn(stream)? {
-            Step::Idle => Ok(FlowEnd::Done),
-            Step::Stale { .. } => Ok(FlowEnd::Stale),
-            Step::Sent(msg) => self.cross(stream, &msg, wire),
+            Turned::Idle => Ok(FlowEnd::Done),
+            Turned::Stale => Ok(FlowEnd::Stale),
+            Turned::Sent => self.cross(stream, wire),
         }
     }
 
-    // Brings a message that was sent to its destination, over a wire.
-    fn cross<W: Wire>(&mut self, stream: u32, msg: &Msg, wire: &mut W) -> Result<FlowEnd, NodeFault>
-        requires kept { IsUnderWay self.old stream msg.now }
+    // Brings the message that the newest entry sends to its destination, over a wire, from where it stands.
+    fn cross<W: Wire>(&mut self, stream: u32, wire: &mut W) -> Result<FlowEnd, NodeFault>
+        requires kept { HasJustSent self.old stream }
         requires stream { stream < length self.old.sessions.items }
-        requires message { IsMessage msg.now }
         requires under { (W.state wire.old).under ≡ 0 }
-        ensures flowed { ForEachRun self.old (λ d attached h. IsOnTheWay h stream msg.now → Grows (λ end es. (left : ℕ) → TurnsEnd stream (Some msg.now) left left end (events_of es)) (λ es. (left : ℕ) → IsBegun stream (Some msg.now) left (events_of es)) d attached h self.new result) }
-        ensures crossed { ForEachRun self.old (λ d attached h. IsOnTheWay h stream msg.now → Adds (λ end es. Crosses (W.state wire.old) (W.state wire.new) stream (Some msg.now) end (events_of es)) d attached h self.new result) }
+        ensures flowed { ForEachRun self.old (λ d attached h. (msg : Msg) → IsJustSent h stream msg → Grows (λ end es. (left : ℕ) → TurnsEnd stream (Some msg) left left end (events_of es)) (λ es. (left : ℕ) → IsBegun stream (Some msg) left (events_of es)) d attached h self.new result) }
+        ensures crossed { ForEachRun self.old (λ d attached h. (msg : Msg) → IsJustSent h stream msg → Adds (λ end es. Crosses (W.state wire.old) (W.state wire.new) stream (Some msg) end (events_of es)) d attached h self.new result) }
         ensures wire { MovesOn (W.state wire.old) (W.state wire.new) result }
-        ensures sound { ForEachRun self.old (λ d attached h. IsOnTheWay h stream msg.now → GrowsSound d attached h self.new result) }
+        ensures sound { ForEachRun self.old (λ d attached h. (msg : Msg) → IsJustSent h stream msg → GrowsSound d attached h self.new result) }
     {
+        let source = route(&self.routes, stream).source;
+        let msg = last_sent(&self.nodes, source);
         match carry(self.alloc, msg, wire)? {
             Carried::Whole(msg) => self.arrive(stream, msg),
             Carried::Cut(cause) => {

@@ -1,6 +1,6 @@
 // Messages that were sent.
 ghost use Rattle.pr_inval.specs.declared.msg.Msg.{Msg};
-ghost use Rattle.pr_sim.specs.Messages.{IsPlace, IsSentAt};
+ghost use Rattle.pr_sim.specs.Messages.{IsPlace, IsSentAt, IsSentLast};
 ghost use Rattle.pr_stamps.specs.Kept.{Kept};
 ghost use Rattle.pr_story.specs.Places.{SendsAt};
 ghost use Rattle.pr_inval.specs.Messages.{IsMessage};
@@ -40,6 +40,15 @@ pub fn again(
         alloc,
         sent_at(node_at(nodes, node).journal().entries(), place),
     )
+}
+
+// The message that the node's newest entry sends.
+pub fn last_sent(nodes: &Vec<Option<Node>>, node: u32) -> &Msg
+    requires { (msg : Msg) × IsSentLast nodes.now.items node msg }
+    ensures { (msg : Msg) → IsSentLast nodes.now.items node msg → result.now ≡ msg }
+{
+    let entries = node_at(nodes, node).journal().entries();
+    sent_at(entries, entries.len() - 1)
 }
 
 fn sent_at(entries: &[Entry], place: usize) -> &Msg

@@ -1,5 +1,7 @@
 // A settle: the attached streams are attached anew, and then make their turns until none has anything to send.
+ghost use Rattle.pr_inval.specs.declared.msg.Msg.{Msg};
 ghost use Rattle.pr_inval.specs.Standing.{Remembered};
+ghost use Rattle.pr_sim.specs.Flowing.{HasJustSent};
 ghost use Rattle.pr_sim.specs.Commands.{Ends, ForEachRun, MakesOne, attached_of};
 ghost use Rattle.pr_sim.specs.Running.{HasAttached, IsKept, IsRunning};
 ghost use Rattle.pr_sim.specs.Settles.{AreAtRest, AttachesAnew, ForEachInTime, HasRounds, IsAdvance, IsAcceptOf, IsSettling, MakesPart, just};
@@ -7,11 +9,13 @@ ghost use Rattle.pr_story.specs.History.{NodeEntry};
 ghost use Rattle.pr_story.specs.Scripts.{AreRound, AreSettled, Settle};
 ghost use Rattle.pr_story.specs.Settling.{IsInTime};
 ghost use Rattle.pr_story.specs.declared.event.Event.TheVariants.{Sent};
-ghost use Rattle.pr_inval.specs.Messages.{IsMessage};
 ghost use Rattle.std.specs.Prelude.{◌≡◌, ◌<◌, ◌∷◌, List, MatchOption, None, OnOk, Some, false, length, slice_index_or, true};
 
 use crate::engine::Engine;
-use pr_inval::{Msg, NodeFault, Session, Step};
+use crate::messages::last_sent;
+use crate::slots::route;
+use pr_inval::{NodeFault, Session};
+use pr_node::Turned;
 use pr_wire::through_bytes;
 
 impl Engine {
@@ -104,27 +108,27 @@ impl Engine {
         requires attached { HasAttached self.old stream }
         ensures { ForEachInTime self.old (λ d attached h. MakesPart (IsAdvance stream) d attached h self.new result) }
     {
-        let msg = match self.turn(stream)? {
-            Step::Idle => return Ok(false),
-            Step::Stale { .. } => {
-                let msg = self.snapshot(stream)?;
-                self.pass(stream, &msg)?;
+        match self.turn(stream)? {
+            Turned::Idle => return Ok(false),
+            Turned::Stale => {
+                self.snapshot(stream)?;
+                self.pass(stream)?;
                 return Ok(true);
             }
-            Step::Sent(msg) => msg,
-        };
-        self.pass(stream, &msg)?;
+            Turned::Sent => {}
+        }
+        self.pass(stream)?;
         Ok(true)
     }
 
-    // Takes the message that the stream sent last, through its bytes, at its destination.
-    fn pass(&mut self, stream: u32, msg: &Msg) -> Result<(), NodeFault>
-        requires kept { IsKept self.old }
+    // Takes the message that the newest entry sends, through its bytes, at its destination.
+    fn pass(&mut self, stream: u32) -> Result<(), NodeFault>
+        requires kept { HasJustSent self.old stream }
         requires stream { stream < length self.old.sessions.items }
-        requires message { IsMessage msg.now }
-        ensures { ForEachRun self.old (λ d attached h. (sent : NodeEntry) (before : List NodeEntry) → h ≡ sent ∷ before → sent.entry.event ≡ Sent msg.now → msg.now.stream ≡ stream → IsInTime d.plan before stream → MakesOne d attached h (λ done. IsAcceptOf msg.now) self.new result) }
+        ensures { ForEachRun self.old (λ d attached h. (msg : Msg) (sent : NodeEntry) (before : List NodeEntry) → h ≡ sent ∷ before → sent.entry.event ≡ Sent msg → msg.stream ≡ stream → IsInTime d.plan before stream → MakesOne d attached h (λ done. IsAcceptOf msg) self.new result) }
     {
-        let msg = through_bytes(self.alloc, msg)?;
+        let source = route(&self.routes, stream).source;
+        let msg = through_bytes(self.alloc, last_sent(&self.nodes, source))?;
         let _ = self.take_in(stream, msg)?;
         Ok(())
     }

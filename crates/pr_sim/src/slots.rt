@@ -2,14 +2,14 @@
 ghost use Rattle.pr_node.specs.Scanning.{fresh};
 ghost use Rattle.pr_sim.specs.declared.engine.Route.{Route};
 ghost use Rattle.pr_stamps.specs.Kept.{Kept};
-ghost use Rattle.pr_story.specs.Turns.{event_of};
-ghost use Rattle.pr_sim.specs.Places.{HasNoted, OfStream};
+ghost use Rattle.pr_story.specs.declared.entry.Entry.{Entry};
+ghost use Rattle.pr_node.specs.Calls.{IsTurned};
+ghost use Rattle.pr_sim.specs.Places.{HasNoted};
 ghost use Rattle.pr_story.specs.Places.{sent_after};
 ghost use Rattle.std.specs.Prelude.{◌≡◌, ◌<◌, ◌≤◌, ◌++◌, [], ◌∷◌, ℕ, List, None, OnOk, Some, length, slice_index_or, slice_set};
 
 use crate::engine::Route;
-use pr_inval::Step;
-use pr_node::Scan;
+use pr_node::{Scan, Turned};
 use pr_stamps::{NoMemory, Roomy};
 use pr_vectors::Vector;
 
@@ -54,13 +54,13 @@ pub fn note(sent: &mut Vec<Roomy<usize>>, stream: u32, place: usize)
     sent[stream as usize].push(place);
 }
 
-// Notes the place of the message of a step, if it sends one.
-pub fn note_step(sent: &mut Vec<Roomy<usize>>, stream: u32, step: &Step, place: usize)
+// Notes the place of the message of a turn, if it sent one.
+pub fn note_turn(sent: &mut Vec<Roomy<usize>>, stream: u32, turned: Turned, place: usize)
     requires known { stream < length sent.old.items }
     requires room { (d : Kept ℕ) → 0 < (slice_index_or sent.old.items stream d).room }
-    ensures { (own : OfStream stream step.now) → HasNoted sent.old.items sent.new.items stream (sent_after (event_of stream step.now) stream place) }
+    ensures { (e : Entry) → IsTurned stream turned e → HasNoted sent.old.items sent.new.items stream (sent_after e.event stream place) }
 {
-    if let Step::Sent(_) = step {
+    if let Turned::Sent = turned {
         note(sent, stream, place);
     }
 }

@@ -6,8 +6,9 @@ ghost use Rattle.pr_story.specs.Scripts.{Detach, attached_after};
 ghost use Rattle.std.specs.Prelude.{◌<◌, length};
 
 use crate::engine::{CALLER, Engine};
-use crate::slots::{begin, note, note_step, room_for, route};
-use pr_inval::{Msg, NodeFault, Step};
+use crate::slots::{begin, note, note_turn, room_for, route};
+use pr_inval::NodeFault;
+use pr_node::Turned;
 
 impl Engine {
     /// Attaches a stream at its destination, in the time of the node's `attach`.
@@ -43,8 +44,9 @@ impl Engine {
         session.detach();
     }
 
-    /// Makes a turn of an attached stream, at its source, in the time of the node's `turn_from`.
-    pub fn turn(&mut self, stream: u32) -> Result<Step, NodeFault>
+    /// Makes a turn of an attached stream, at its source, in the time of the node's `note_turn`. The message that it
+    /// sends stands in the newest entry.
+    pub fn turn(&mut self, stream: u32) -> Result<Turned, NodeFault>
         requires kept { IsKept self.old }
         requires stream { stream < length self.old.sessions.items }
         requires attached { HasAttached self.old stream }
@@ -61,10 +63,10 @@ impl Engine {
         };
         let place = at.journal().len();
         let scan = &mut self.scans[stream as usize];
-        let step = at.turn_from(CALLER, session, scan)?;
+        let turned = at.note_turn(CALLER, session, scan)?;
         self.history.push((node, place));
-        note_step(&mut self.sent, stream, &step, place);
-        Ok(step)
+        note_turn(&mut self.sent, stream, turned, place);
+        Ok(turned)
     }
 
     /// Makes a turn of an attached stream, whose message may then be delivered by its number, in the time of `turn`.
@@ -78,8 +80,9 @@ impl Engine {
         Ok(())
     }
 
-    /// Makes a checkpoint of an attached stream, at its source, in the time of the node's `checkpoint`.
-    pub fn snapshot(&mut self, stream: u32) -> Result<Msg, NodeFault>
+    /// Makes a checkpoint of an attached stream, at its source, in the time of the node's `note_checkpoint`. The message
+    /// stands in the newest entry.
+    pub fn snapshot(&mut self, stream: u32) -> Result<(), NodeFault>
         requires kept { IsKept self.old }
         requires stream { stream < length self.old.sessions.items }
         requires attached { HasAttached self.old stream }
@@ -95,10 +98,10 @@ impl Engine {
             unreachable!()
         };
         let place = at.journal().len();
-        let msg = at.checkpoint(CALLER, session)?;
+        at.note_checkpoint(CALLER, session)?;
         self.history.push((node, place));
         note(&mut self.sent, stream, place);
-        Ok(msg)
+        Ok(())
     }
 
     /// Makes a checkpoint of an attached stream, which may then be delivered by its number, in the time of `snapshot`.
@@ -108,7 +111,7 @@ impl Engine {
         requires attached { HasAttached self.old stream }
         ensures { ForEachRun self.old (λ d attached h. GivesOne (ToCheckpoint stream) d attached h self.new result) }
     {
-        let _ = self.snapshot(stream)?;
+        self.snapshot(stream)?;
         Ok(())
     }
 }

@@ -12,4 +12,4 @@ returns-in_err-snapshot c d attached h k =
 pub returns : goal.returns
 returns c d attached h k =
     let made = c.in_ok-snapshot.ensures d attached h k in
-    (made.0, made.1, checkpoint_gives c.args.stream made.0.node c.in_ok-snapshot.field-0 made.0.entry.event made.2.0 made.2.1)
+    (made.0, made.1, checkpoint_gives c.args.stream made.0.node made.0.entry made.2)

@@ -1,14 +1,13 @@
-use Rattle.std.proofs.Common.{[], ◌∷◌, ◌++◌, refl, sym, ◌∙◌, ap, subst, arith}
+use Rattle.std.proofs.Common.{ℕ, [], ◌∷◌, ◌++◌, refl, ◌∙◌, ap, subst, arith}
 use Rattle.std.specs.Prelude.{IsTrue, Some}
 use Rattle.pr_inval.specs.Standing as session
 use Rattle.pr_node.specs.Stored.{means}
 use Rattle.pr_story.specs.Clients.{client_vector}
+use Rattle.pr_node.specs.Calls.{IsCheckpointed}
 use Rattle.pr_sim.specs.Commands.{IsCheckpointMade}
 use Rattle.pr_sim.proofs.Faults.{no_memory, not_made, same_journal, stopped_same, stopped_still, this_cause, time_is_worn}
 use Rattle.pr_sim.proofs.Step.{is_node_of, never_empty, place_len, some_is, stood}
-use Rattle.pr_sim.proofs.OfStreams.{checkpoint_at_source, checkpoint_is, ends_of, noted_of, source_ends, session_short}
-use Rattle.pr_story.specs.Places as story
-use Rattle.pr_sim.specs.Places.{HasNoted}
+use Rattle.pr_sim.proofs.OfStreams.{checkpoint_at_source, checkpoint_noted, ends_of, source_ends, session_short}
 use Rattle.std.specs.Vec.{with_item}
 use Rattle.pr_sim.proofs.engine.Engine.snapshot.Goals as goal
 
@@ -33,18 +32,18 @@ unreachable-requires-in_default-index_mut c =
     let x = c.requires.kept.3.stands.sessions c.args.stream c.requires.stream in
     never_empty _ _ _ x.0 c.requires.stream c.index_mut-2.ensures.value x.1 c.in_default-index_mut.is
 
-pub returns-in_err-msg : goal.returns-in_err-msg
-returns-in_err-msg c d attached h k =
+pub returns-in_err-note_checkpoint : goal.returns-in_err-note_checkpoint
+returns-in_err-note_checkpoint c d attached h k =
     let within = (ends_of d.plan _ _ c.args.stream c.route-node.result k.stands.routes (let lt = c.requires.stream in let l = k.stands.many in omega arith) c.route-node.ensures).2 in
     let was = stood _ _ _ _ within c.index_mut.ensures.value c.in-Some.is in
     let held = stood _ _ _ _ c.requires.stream c.index_mut-2.ensures.value c.in-Some-index_mut.is in
-    let f = record c.args.self.now { nodes = with_item c.args.self.now.nodes c.route-node.result.source (Some c.checkpoint.new.self); sessions = with_item c.args.self.now.sessions c.args.stream (Some c.checkpoint.new.session); history = c.reserve.new.self; sent = c.room_for.new.sent } in
+    let f = record c.args.self.now { nodes = with_item c.args.self.now.nodes c.route-node.result.source (Some c.note_checkpoint.new.self); sessions = with_item c.args.self.now.sessions c.args.stream (Some c.note_checkpoint.new.session); history = c.reserve.new.self; sent = c.room_for.new.sent } in
     let node = is_node_of d.plan h c.args.self.now.nodes.items c.route-node.result.source c.in-Some.at k.stands.nodes within was in
-    not_made d attached h (IsCheckpointMade c.args.stream) f _ c.from_residual-in_err-msg.result c.from_residual-in_err-msg.ensures.1
-    (λ fault is. this_cause h c.in_err-msg.field-0.0 fault (time_is_worn d.plan h k.stands.valid _ (means c.in-Some.at) (means c.checkpoint.new.self) node.journal_is (session.means c.in-Some-index_mut.session).standing.time (session_short d attached h c.args.self.now c.args.stream c.in-Some-index_mut.session k c.requires.stream held) c.in_err-msg.field-0.0 c.in_err-msg.ensures.fault) is)
-    (stopped_still d attached h c.args.self.now f c.route-node.result.source c.in-Some.at c.checkpoint.new.self k was
+    not_made d attached h (IsCheckpointMade c.args.stream) f _ c.from_residual-in_err-note_checkpoint.result c.from_residual-in_err-note_checkpoint.ensures.1
+    (λ fault is. this_cause h c.in_err-note_checkpoint.field-0.0 fault (time_is_worn d.plan h k.stands.valid _ (means c.in-Some.at) (means c.note_checkpoint.new.self) node.journal_is (session.means c.in-Some-index_mut.session).standing.time (session_short d attached h c.args.self.now c.args.stream c.in-Some-index_mut.session k c.requires.stream held) c.in_err-note_checkpoint.field-0.0 c.in_err-note_checkpoint.ensures.fault) is)
+    (stopped_still d attached h c.args.self.now f c.route-node.result.source c.in-Some.at c.note_checkpoint.new.self k was
     refl c.reserve.ensures.items
-    (same_journal (means c.in-Some.at) (means c.checkpoint.new.self) _ c.in_err-msg.field-0.0 c.in_err-msg.ensures.fault))
+    (same_journal (means c.in-Some.at) (means c.note_checkpoint.new.self) _ c.in_err-note_checkpoint.field-0.0 c.in_err-note_checkpoint.ensures.fault))
 
 pub returns : goal.returns
 returns c d attached h k =
@@ -53,18 +52,18 @@ returns c d attached h k =
     let was = stood _ _ _ _ within c.index_mut.ensures.value c.in-Some.is in
     let held = stood _ _ _ _ c.requires.stream c.index_mut-2.ensures.value c.in-Some-index_mut.is in
     let n = c.route-node.result.source in
-    let f = record c.args.self.now { nodes = with_item c.args.self.now.nodes c.route-node.result.source (Some c.checkpoint.new.self); sessions = with_item c.args.self.now.sessions c.args.stream (Some c.checkpoint.new.session); history = c.push.new.self; sent = c.note.new.sent } in
-    source_ends d attached h c.args.self.now f k n c.in-Some.at c.checkpoint.new.self c.len-place.result
+    let f = record c.args.self.now { nodes = with_item c.args.self.now.nodes c.route-node.result.source (Some c.note_checkpoint.new.self); sessions = with_item c.args.self.now.sessions c.args.stream (Some c.note_checkpoint.new.session); history = c.push.new.self; sent = c.note.new.sent } in
+    let added = c.in_ok-note_checkpoint.ensures.ok (client_vector h) in
+    source_ends d attached h c.args.self.now f k n c.in-Some.at c.note_checkpoint.new.self c.len-place.result
     (record {
       within = within;
       was = was;
       nodes = refl;
       place_is = c.len-place.ensures ∙ place_len c.journal.result.now.items c.in-Some.at.journal.items c.journal.ensures;
       noted = c.push.ensures.items ∙ ap (λ ps. ps ++ (n, c.len-place.result) ∷ []) c.reserve.ensures.items;
-    }) 0 c.args.stream c.in-Some-index_mut.session c.checkpoint.new.session c.requires.stream held
-    (IsCheckpointMade c.args.stream c.in_ok-msg.msg) _ (c.in_ok-msg.ensures.ok (client_vector h)) refl refl refl refl
+    }) 0 c.args.stream c.in-Some-index_mut.session c.note_checkpoint.new.session c.requires.stream held
+    (IsCheckpointMade c.args.stream c.in_ok-note_checkpoint.field-0) _ added refl refl refl refl
     (let y = c.requires.attached in subst (λ z. IsTrue z.attached) (some_is y.0 c.in-Some-index_mut.session _ y.1 held) y.2)
-    (λ on same q. checkpoint_at_source d.plan h n c.args.stream c.in-Some-index_mut.session.stream c.in_ok-msg.msg (c.in_ok-msg.ensures.ok (client_vector h)).entry same r.0 on c.in_ok-msg.ensures.grammar q)
-    (λ same q. checkpoint_is c.args.stream c.in-Some-index_mut.session.stream c.in_ok-msg.msg (c.in_ok-msg.ensures.ok (client_vector h)).entry same c.in_ok-msg.ensures.grammar q)
+    (λ on same q. checkpoint_at_source d.plan h n c.args.stream added.entry r.0 on (subst (λ (t : ℕ). IsCheckpointed t added.entry) same q)) (λ same q. subst (λ (t : ℕ). IsCheckpointed t added.entry) same q)
     c.room_for.new.sent.items c.room_for.ensures.many c.room_for.ensures.items
-    (λ same q. subst (λ v. HasNoted c.room_for.new.sent.items c.note.new.sent.items c.args.stream (story.sent_after v c.args.stream c.len-place.result)) (sym q.0) (noted_of c.args.stream c.in_ok-msg.msg c.len-place.result c.room_for.new.sent.items c.note.new.sent.items (q.1 ∙ same) c.note.ensures)) refl (λ i j are. are)
+    (λ same q. checkpoint_noted c.args.stream c.len-place.result added.entry c.room_for.new.sent.items c.note.new.sent.items (subst (λ (t : ℕ). IsCheckpointed t added.entry) same q) c.note.ensures) refl (λ i j are. are)
