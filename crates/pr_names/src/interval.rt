@@ -1,7 +1,9 @@
 // Intervals of names.
-ghost use Rattle.pr_names.specs.Bound.{is_under};
+ghost use Rattle.pr_names.specs.Bound.{bound_lt, is_under};
+ghost use Rattle.pr_names.specs.Order.{name_lt};
 ghost use Rattle.pr_names.specs.Span.{IsSpan, Overlap, holds};
 ghost use Rattle.pr_names.specs.Text.{interval_read};
+ghost use Rattle.pr_names.specs.declared.bound.Bound.TheVariants.{At};
 ghost use Rattle.std.specs.Prelude.{◌≡◌, ◌↔◌, IfOk, IfSome, IsTrue, is_some};
 
 use crate::{Bound, IntervalFault, Name, text};
@@ -76,10 +78,47 @@ impl Interval {
         !name.is_below(&self.lo) && self.hi.is_above(name)
     }
 
+    /// Whether it begins before the other, by one comparison.
+    pub fn begins_before(&self, other: &Interval) -> bool
+        ensures value { result ≡ name_lt self.now.lo other.now.lo }
+        ensures interval { IsSpan self.now }
+        ensures other { IsSpan other.now }
+    {
+        self.lo.is_below(&other.lo)
+    }
+
+    /// Whether it ends before the other, by at most one comparison.
+    pub fn ends_before(&self, other: &Interval) -> bool
+        ensures value { result ≡ bound_lt self.now.hi other.now.hi }
+        ensures interval { IsSpan self.now }
+        ensures other { IsSpan other.now }
+    {
+        self.hi.is_below(&other.hi)
+    }
+
+    /// Whether it lies behind the other, with a name between, by at most one comparison.
+    pub fn is_behind(&self, other: &Interval) -> bool
+        ensures { result ≡ bound_lt other.now.hi (At self.now.lo) }
+    {
+        match &other.hi {
+            Bound::At(end) => end.is_below(&self.lo),
+            Bound::End => false,
+        }
+    }
+
+    /// Whether it reaches past the first name of the other, by at most one comparison.
+    pub fn reaches(&self, other: &Interval) -> bool
+        ensures value { result ≡ is_under other.now.lo self.now.hi }
+        ensures interval { IsSpan self.now }
+        ensures other { IsSpan other.now }
+    {
+        self.hi.is_above(&other.lo)
+    }
+
     /// Whether some name is in both intervals, by two comparisons.
     pub fn meets(&self, other: &Interval) -> bool
         ensures { IsTrue result ↔ Overlap self.now other.now }
     {
-        other.hi().is_above(&self.lo()) && self.hi().is_above(&other.lo())
+        other.reaches(self) && self.reaches(other)
     }
 }

@@ -1,9 +1,9 @@
 // The complement of a set.
 ghost use Rattle.pr_sets.specs.Spans.{IsComplement, IsSet};
-ghost use Rattle.std.specs.Prelude.{◌≡◌, ◌++◌, IfOk, OnOk};
-ghost use Rattle.std.specs.Option.{option_to_list};
+ghost use Rattle.std.specs.Prelude.{IfOk};
 
 use crate::ends;
+use crate::pushing::push_some;
 use pr_names::{Bound, Interval, Name};
 use pr_stamps::{NoMemory, Seq};
 use std::alloc::Global;
@@ -27,23 +27,4 @@ pub fn complement(alloc: Global, parts: &[Interval]) -> Result<Seq<Interval>, No
     }
     push_some(alloc, &mut gaps, ends::gap(from, Bound::End), room)?;
     Ok(gaps)
-}
-
-/// Adds the interval, if there is one. A list that has none first gets room for so many.
-#[inline]
-pub fn push_some(
-    alloc: Global,
-    list: &mut Seq<Interval>,
-    part: Option<Interval>,
-    room: usize,
-) -> Result<(), NoMemory>
-    ensures { OnOk result (list.new ≡ list.old ++ option_to_list part) }
-{
-    let Some(part) = part else {
-        return Ok(());
-    };
-    if list.is_empty() {
-        *list = Seq::with_room(alloc, room)?;
-    }
-    list.push(part)
 }

@@ -15,9 +15,9 @@ pub fn within(a: &[Interval], b: &[Interval]) -> bool
     while i < a.len() && j < b.len() {
         let left = &a[i];
         let right = &b[j];
-        if right.hi().is_below(&left.hi()) {
+        if right.ends_before(left) {
             j += 1;
-        } else if left.lo().is_below(&right.lo()) {
+        } else if left.begins_before(right) {
             return false;
         } else {
             i += 1;

@@ -5,7 +5,7 @@ ghost use Rattle.pr_sets.specs.Spans.{is_behind};
 ghost use Rattle.std.specs.Option.{option_to_list};
 ghost use Rattle.std.specs.Prelude.{◌≡◌, IsTrue};
 
-use pr_names::{Bound, Interval, Name};
+use pr_names::{Bound, Interval};
 
 /// The names from one bound up to another, if any.
 pub fn gap(from: Bound, to: Bound) -> Option<Interval>
@@ -17,16 +17,15 @@ pub fn gap(from: Bound, to: Bound) -> Option<Interval>
     }
 }
 
-/// What an interval has from a name on, if anything.
-pub fn later_part(part: &Interval, from: &Name) -> Option<Interval>
-    ensures { option_to_list result ≡ later_part part.now from.now }
+/// What an interval has from where another begins, if anything.
+pub fn later_part(part: &Interval, other: &Interval) -> Option<Interval>
+    ensures { option_to_list result ≡ later_part part.now other.now.lo }
 {
-    let _ = from.bytes();
-    if !part.hi().is_above(from) {
+    if !part.reaches(other) {
         return None;
     }
-    if part.lo().is_below(from) {
-        Interval::new(*from, part.hi())
+    if part.begins_before(other) {
+        Interval::new(other.lo(), part.hi())
     } else {
         Some(*part)
     }
@@ -47,5 +46,5 @@ pub fn is_behind(parts: &[Interval], part: &Interval) -> bool
     if parts.is_empty() {
         return true;
     }
-    parts[parts.len() - 1].hi().is_below(&Bound::At(part.lo()))
+    part.is_behind(&parts[parts.len() - 1])
 }

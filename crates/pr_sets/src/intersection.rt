@@ -2,8 +2,8 @@
 ghost use Rattle.pr_sets.specs.Spans.{IsIntersection, IsSet};
 ghost use Rattle.std.specs.Prelude.{IfOk};
 
-use crate::complement::push_some;
 use crate::ends;
+use crate::pushing::push_some;
 use pr_names::Interval;
 use pr_stamps::{NoMemory, Seq};
 use std::alloc::Global;
@@ -29,11 +29,11 @@ pub fn intersection(
     while i < a.len() && j < b.len() {
         let left = &a[i];
         let right = &b[j];
-        if right.hi().is_below(&left.hi()) {
-            push_some(alloc, &mut both, ends::later_part(right, &left.lo()), room)?;
+        if right.ends_before(left) {
+            push_some(alloc, &mut both, ends::later_part(right, left), room)?;
             j += 1;
         } else {
-            push_some(alloc, &mut both, ends::later_part(left, &right.lo()), room)?;
+            push_some(alloc, &mut both, ends::later_part(left, right), room)?;
             i += 1;
         }
     }

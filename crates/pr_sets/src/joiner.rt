@@ -76,7 +76,7 @@ fn grow(parts: &mut [Interval], part: &Interval)
 {
     let at = parts.len() - 1;
     let last = &parts[at];
-    if last.hi().is_below(&part.hi()) {
+    if last.ends_before(part) {
         parts[at] = ends::up_to(last, part.hi());
     }
 }

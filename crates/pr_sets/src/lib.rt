@@ -12,6 +12,7 @@ mod lookup;
 mod meeting;
 mod name_set;
 mod print;
+mod pushing;
 mod read;
 #[cfg(test)]
 mod tests;

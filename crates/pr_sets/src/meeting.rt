@@ -18,7 +18,7 @@ pub fn meets(a: &[Interval], b: &[Interval]) -> bool
         if left.meets(right) {
             return true;
         }
-        if right.hi().is_below(&left.hi()) {
+        if right.ends_before(left) {
             j += 1;
         } else {
             i += 1;

@@ -34,7 +34,7 @@ fn merged(alloc: Global, a: &[Interval], b: &[Interval]) -> Result<Seq<Interval>
     while i < a.len() && j < b.len() {
         let left = &a[i];
         let right = &b[j];
-        if right.lo().is_below(&left.lo()) {
+        if right.begins_before(left) {
             joiner.put(right)?;
             j += 1;
         } else {

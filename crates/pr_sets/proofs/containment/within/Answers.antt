@@ -5,8 +5,8 @@ use Rattle.pr_sets.proofs.Meetings.{right_step, left_step, not_within, within_en
 use Rattle.pr_sets.proofs.containment.within.Goals as goal
 use Rattle.pr_sets.proofs.containment.within.Goals.{then-loop-i-test+else-j-b, else-loop-i-test}
 
-pub loop-i-preserved-then-is_below : goal.loop-i-preserved-then-is_below
-loop-i-preserved-then-is_below c = record {
+pub loop-i-preserved-then-ends_before : goal.loop-i-preserved-then-ends_before
+loop-i-preserved-then-ends_before c = record {
   left = omega arith;
   right = omega arith;
   told = right_step c.args.a.now c.args.b.now c.loop-i.i c.loop-i.j c.index-a-i.result c.index-b-j.result (record {
@@ -18,11 +18,11 @@ loop-i-preserved-then-is_below c = record {
     right_is = c.index-b-j.is;
     told = c.loop-i.invariant.told;
   })
-      (bound_lt_places c.index-b-j.result.hi c.index-a-i.result.hi c.hi.ensures.interval.hi c.hi-in-loop-i.ensures.interval.hi (sym (rw (c.hi.ensures.value, c.hi-in-loop-i.ensures.value) at c.is_below.ensures) ∙ c.if-is_below.true));
+      (bound_lt_places c.index-b-j.result.hi c.index-a-i.result.hi c.ends_before.ensures.interval.hi c.ends_before.ensures.other.hi (sym c.ends_before.ensures.value ∙ c.if-ends_before.true));
 }
 
-pub returns-then-is_below-2 : goal.returns-then-is_below-2
-returns-then-is_below-2 c = (
+pub returns-then-begins_before : goal.returns-then-begins_before
+returns-then-begins_before c = (
   λ h. absurd (false≢true h),
   λ h. absurd (not_within c.args.a.now c.args.b.now c.loop-i.i c.loop-i.j c.index-a-i.result c.index-b-j.result (record {
     left_set = c.requires.a;
@@ -33,7 +33,7 @@ returns-then-is_below-2 c = (
     right_is = c.index-b-j.is;
     told = c.loop-i.invariant.told;
   })
-      (lt_places c.index-a-i.result.lo c.index-b-j.result.lo c.lo.ensures.interval.lo c.lo-else-is_below.ensures.interval.lo (sym (rw (c.lo.ensures.value, c.lo-else-is_below.ensures.value) at c.is_below-else-is_below.ensures) ∙ c.if-is_below-2.true))
+      (lt_places c.index-a-i.result.lo c.index-b-j.result.lo c.begins_before.ensures.interval.lo c.begins_before.ensures.other.lo (sym c.begins_before.ensures.value ∙ c.if-begins_before.true))
       h),
 )
 
@@ -50,8 +50,8 @@ loop-i-preserved c = record {
     right_is = c.index-b-j.is;
     told = c.loop-i.invariant.told;
   })
-      (bound_le_places c.index-b-j.result.hi c.index-a-i.result.hi c.hi.ensures.interval.hi c.hi-in-loop-i.ensures.interval.hi (sym (rw (c.hi.ensures.value, c.hi-in-loop-i.ensures.value) at c.is_below.ensures) ∙ c.if-is_below.false))
-      (le_places c.index-a-i.result.lo c.index-b-j.result.lo c.lo.ensures.interval.lo c.lo-else-is_below.ensures.interval.lo (sym (rw (c.lo.ensures.value, c.lo-else-is_below.ensures.value) at c.is_below-else-is_below.ensures) ∙ c.if-is_below-2.false));
+      (bound_le_places c.index-b-j.result.hi c.index-a-i.result.hi c.ends_before.ensures.interval.hi c.ends_before.ensures.other.hi (sym c.ends_before.ensures.value ∙ c.if-ends_before.false))
+      (le_places c.index-a-i.result.lo c.index-b-j.result.lo c.begins_before.ensures.interval.lo c.begins_before.ensures.other.lo (sym c.begins_before.ensures.value ∙ c.if-begins_before.false));
 }
 
 pub returns : goal.returns

@@ -12,6 +12,5 @@ returns c =
     let part = c.args.part.now in
     let last = c.index-parts-parts.result in
     let some : 0 < length c.args.parts.now = search rules in
-    c.is_below.ensures
-    ∙ ((λ i. bound_lt (c.hi.ensures.value i) (At (c.lo.ensures.value i)))
-    ∙ (ap (λ l. bound_lt l.hi (At part.lo)) c.index-parts-parts.is ∙ behind_last c.args.parts.now part last some))
+    c.is_behind.ensures
+    ∙ (ap (λ l. bound_lt l.hi (At part.lo)) c.index-parts-parts.is ∙ behind_last c.args.parts.now part last some)

@@ -1,7 +1,6 @@
-use Rattle.std.proofs.Common.{◌≡◌, List, ap, arith, subst, sym, ◌∙◌}
+use Rattle.std.proofs.Common.{◌≡◌, List, arith, subst, sym, ◌∙◌}
 use Rattle.pr_names.specs.Span.{Span}
 use Rattle.pr_names.proofs.Places.{bound_le_places, bound_lt_places}
-use Rattle.pr_sets.specs.Ends.{later_part}
 use Rattle.pr_sets.specs.Spans.{IsIntersection}
 use Rattle.pr_sets.proofs.Intersections.{shared_is}
 use Rattle.pr_sets.proofs.Parts.{shared_of}
@@ -10,8 +9,8 @@ use Rattle.pr_sets.proofs.Turns.{left_turn, right_turn, left_past, right_past}
 use Rattle.pr_sets.proofs.intersection.intersection.Goals as goal
 use Rattle.pr_sets.proofs.intersection.intersection.Goals.{then-loop-i-test+else-j-b, else-loop-i-test}
 
-pub loop-i-preserved-then-is_below : goal.loop-i-preserved-then-is_below
-loop-i-preserved-then-is_below c = record {
+pub loop-i-preserved-then-ends_before : goal.loop-i-preserved-then-ends_before
+loop-i-preserved-then-ends_before c = record {
   left = omega arith;
   right = omega arith;
   told = right_turn (record {
@@ -21,10 +20,10 @@ loop-i-preserved-then-is_below c = record {
     right = omega arith;
     left_is = c.index-a-i.is;
     right_is = c.index-b-j.is;
-    shares = c.later_part.ensures ∙ ap (later_part c.index-b-j.result) c.lo.ensures.value ∙ right_shared c.index-a-i.result c.index-b-j.result (sym (rw (c.hi.ensures.value, c.hi-in-loop-i.ensures.value) at c.is_below.ensures) ∙ c.if-is_below.true);
+    shares = c.later_part.ensures ∙ right_shared c.index-a-i.result c.index-b-j.result (sym c.ends_before.ensures.value ∙ c.if-ends_before.true);
     adds = c.in_ok-push_some.ensures;
     told = c.loop-i.invariant.told;
-  }) (bound_lt_places c.index-b-j.result.hi c.index-a-i.result.hi c.hi.ensures.interval.hi c.hi-in-loop-i.ensures.interval.hi (sym (rw (c.hi.ensures.value, c.hi-in-loop-i.ensures.value) at c.is_below.ensures) ∙ c.if-is_below.true));
+  }) (bound_lt_places c.index-b-j.result.hi c.index-a-i.result.hi c.ends_before.ensures.interval.hi c.ends_before.ensures.other.hi (sym c.ends_before.ensures.value ∙ c.if-ends_before.true));
 }
 
 pub loop-i-preserved : goal.loop-i-preserved
@@ -38,10 +37,10 @@ loop-i-preserved c = record {
     right = omega arith;
     left_is = c.index-a-i.is;
     right_is = c.index-b-j.is;
-    shares = c.later_part-else-is_below.ensures ∙ ap (later_part c.index-a-i.result) c.lo-else-is_below.ensures.value ∙ left_shared c.index-a-i.result c.index-b-j.result c.hi-in-loop-i.ensures.interval c.hi.ensures.interval (sym (rw (c.hi.ensures.value, c.hi-in-loop-i.ensures.value) at c.is_below.ensures) ∙ c.if-is_below.false);
+    shares = c.later_part-else-ends_before.ensures ∙ left_shared c.index-a-i.result c.index-b-j.result c.ends_before.ensures.other c.ends_before.ensures.interval (sym c.ends_before.ensures.value ∙ c.if-ends_before.false);
     adds = c.in_ok-push_some-2.ensures;
     told = c.loop-i.invariant.told;
-  }) (bound_le_places c.index-b-j.result.hi c.index-a-i.result.hi c.hi.ensures.interval.hi c.hi-in-loop-i.ensures.interval.hi (sym (rw (c.hi.ensures.value, c.hi-in-loop-i.ensures.value) at c.is_below.ensures) ∙ c.if-is_below.false));
+  }) (bound_le_places c.index-b-j.result.hi c.index-a-i.result.hi c.ends_before.ensures.interval.hi c.ends_before.ensures.other.hi (sym c.ends_before.ensures.value ∙ c.if-ends_before.false));
 }
 
 pub returns : goal.returns

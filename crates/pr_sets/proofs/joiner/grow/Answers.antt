@@ -7,19 +7,19 @@ use Rattle.pr_sets.proofs.joiner.grow.Goals as goal
 pub up_to-requires : goal.up_to-requires
 up_to-requires c =
     let last : Span = slice_index_or c.args.parts.now (length c.args.parts.now - 1) c.index-parts-at.result in
-    rw c.hi-then-is_below.ensures.value
-    (later_under last c.args.part.now c.hi.ensures.interval c.hi-2.ensures.interval (sym (rw (c.hi.ensures.value, c.hi-2.ensures.value) at c.is_below.ensures) ∙ c.if-is_below.true))
+    rw c.hi.ensures.value
+    (later_under last c.args.part.now c.ends_before.ensures.interval c.ends_before.ensures.other (sym c.ends_before.ensures.value ∙ c.if-ends_before.true))
 
-pub returns-then-is_below : goal.returns-then-is_below
-returns-then-is_below c =
+pub returns-then-ends_before : goal.returns-then-ends_before
+returns-then-ends_before c =
     let last : Span = slice_index_or c.args.parts.now (length c.args.parts.now - 1) c.index-parts-at.result in
     grown_later c.args.parts.now c.args.part.now last c.up_to.result c.requires
     (ap (slice_index_or c.args.parts.now (length c.args.parts.now - 1)) c.index-parts-at.is)
-    (sym (rw (c.hi.ensures.value, c.hi-2.ensures.value) at c.is_below.ensures) ∙ c.if-is_below.true)
-    (c.up_to.ensures ∙ ap (λ h. record { lo = last.lo; hi = h }) c.hi-then-is_below.ensures.value)
+    (sym c.ends_before.ensures.value ∙ c.if-ends_before.true)
+    (c.up_to.ensures ∙ ap (λ h. record { lo = last.lo; hi = h }) c.hi.ensures.value)
 
-pub returns-else-is_below : goal.returns-else-is_below
-returns-else-is_below c =
+pub returns-else-ends_before : goal.returns-else-ends_before
+returns-else-ends_before c =
     grown_same c.args.parts.now c.args.part.now (slice_index_or c.args.parts.now (length c.args.parts.now - 1) c.index-parts-at.result) c.requires
     (ap (slice_index_or c.args.parts.now (length c.args.parts.now - 1)) c.index-parts-at.is)
-    (sym (rw (c.hi.ensures.value, c.hi-2.ensures.value) at c.is_below.ensures) ∙ c.if-is_below.false)
+    (sym c.ends_before.ensures.value ∙ c.if-ends_before.false)

@@ -12,8 +12,8 @@ returns-then-meets c = (
   λ _. refl,
 )
 
-pub loop-i-preserved-then-is_below : goal.loop-i-preserved-then-is_below
-loop-i-preserved-then-is_below c = record {
+pub loop-i-preserved-then-ends_before : goal.loop-i-preserved-then-ends_before
+loop-i-preserved-then-ends_before c = record {
   left = omega arith;
   right = omega arith;
   told = right_turn {out = []} {r = None} (record {
@@ -29,7 +29,7 @@ loop-i-preserved-then-is_below c = record {
         (λ o. false≢true (sym c.if-meets.false ∙ c.meets.ensures.1 o));
     adds = refl;
     told = c.loop-i.invariant.told;
-  }) (bound_lt_places c.index-b-j.result.hi c.index-a-i.result.hi c.hi.ensures.interval.hi c.hi-in-loop-i.ensures.interval.hi (sym (rw (c.hi.ensures.value, c.hi-in-loop-i.ensures.value) at c.is_below.ensures) ∙ c.if-is_below.true));
+  }) (bound_lt_places c.index-b-j.result.hi c.index-a-i.result.hi c.ends_before.ensures.interval.hi c.ends_before.ensures.other.hi (sym c.ends_before.ensures.value ∙ c.if-ends_before.true));
 }
 
 pub loop-i-preserved : goal.loop-i-preserved
@@ -49,7 +49,7 @@ loop-i-preserved c = record {
         (λ o. false≢true (sym c.if-meets.false ∙ c.meets.ensures.1 o));
     adds = refl;
     told = c.loop-i.invariant.told;
-  }) (bound_le_places c.index-b-j.result.hi c.index-a-i.result.hi c.hi.ensures.interval.hi c.hi-in-loop-i.ensures.interval.hi (sym (rw (c.hi.ensures.value, c.hi-in-loop-i.ensures.value) at c.is_below.ensures) ∙ c.if-is_below.false));
+  }) (bound_le_places c.index-b-j.result.hi c.index-a-i.result.hi c.ends_before.ensures.interval.hi c.ends_before.ensures.other.hi (sym c.ends_before.ensures.value ∙ c.if-ends_before.false));
 }
 
 pub returns-else-j-b : goal.returns-else-j-b

@@ -13,18 +13,18 @@ loop-i-init c =
     let P : List Span → Type 0 = λ k. Merging c.args.a.now c.args.b.now 0 0 k in
     subst P (sym c.in_ok-joiner.ensures) (merge_begins c.args.a.now c.args.b.now c.requires.a c.requires.b)
 
-pub loop-i-preserved-then-is_below : goal.loop-i-preserved-then-is_below
-loop-i-preserved-then-is_below c =
+pub loop-i-preserved-then-begins_before : goal.loop-i-preserved-then-begins_before
+loop-i-preserved-then-begins_before c =
     merge_right c.args.a.now c.args.b.now c.loop-i.i c.loop-i.j c.loop-i.joiner c.put.new.self c.index-a-i.result c.index-b-j.result
     (omega arith) (omega arith) c.index-a-i.is c.index-b-j.is
-    (lt_places c.index-b-j.result.lo c.index-a-i.result.lo c.lo.ensures.interval.lo c.lo-in-loop-i.ensures.interval.lo (sym (rw (c.lo.ensures.value, c.lo-in-loop-i.ensures.value) at c.is_below.ensures) ∙ c.if-is_below.true))
+    (lt_places c.index-b-j.result.lo c.index-a-i.result.lo c.begins_before.ensures.interval.lo c.begins_before.ensures.other.lo (sym c.begins_before.ensures.value ∙ c.if-begins_before.true))
     c.in_ok-put.ensures c.loop-i.invariant
 
 pub loop-i-preserved : goal.loop-i-preserved
 loop-i-preserved c =
-    merge_left c.args.a.now c.args.b.now c.loop-i.i c.loop-i.j c.loop-i.joiner c.put-else-is_below.new.self c.index-a-i.result c.index-b-j.result
+    merge_left c.args.a.now c.args.b.now c.loop-i.i c.loop-i.j c.loop-i.joiner c.put-else-begins_before.new.self c.index-a-i.result c.index-b-j.result
     (omega arith) (omega arith) c.index-a-i.is c.index-b-j.is
-    (le_places c.index-b-j.result.lo c.index-a-i.result.lo c.lo.ensures.interval.lo c.lo-in-loop-i.ensures.interval.lo (sym (rw (c.lo.ensures.value, c.lo-in-loop-i.ensures.value) at c.is_below.ensures) ∙ c.if-is_below.false))
+    (le_places c.index-b-j.result.lo c.index-a-i.result.lo c.begins_before.ensures.interval.lo c.begins_before.ensures.other.lo (sym c.begins_before.ensures.value ∙ c.if-begins_before.false))
     c.in_ok-put-2.ensures c.loop-i.invariant
 
 pub returns : goal.returns
