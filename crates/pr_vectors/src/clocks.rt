@@ -1,7 +1,7 @@
 // The clocks of a packed vector.
 ghost use Rattle.pr_vectors.specs.Packed.{vector_in};
-ghost use Rattle.pr_vectors.specs.Vector.{IsVector, clock_of, unpacked};
-ghost use Rattle.std.specs.Prelude.{◌≡◌, ◌≤◌, ◌<◌, ℕ, IfOk};
+ghost use Rattle.pr_vectors.specs.Vector.{IsVector, clock_of, unpacked, zero_vector};
+ghost use Rattle.std.specs.Prelude.{◌≡◌, ◌≤◌, ◌<◌, ◌↔◌, ℕ, IfOk, IsTrue};
 
 use crate::Vector;
 use pr_stamps::{NODES, NoMemory};
@@ -17,6 +17,13 @@ pub(crate) enum Clocks {
 }
 
 impl Clocks {
+    pub(crate) fn zero() -> Clocks
+        ensures value { vector_in result ≡ zero_vector }
+        ensures range { IsVector (vector_in result) }
+    {
+        Clocks::Few([0; 8])
+    }
+
     pub(crate) fn of(alloc: Global, vector: &Vector) -> Result<Clocks, NoMemory>
         ensures value { IfOk result (λ clocks. vector_in clocks ≡ vector.now) }
         ensures range { IsVector vector.now }
@@ -74,6 +81,25 @@ impl Clocks {
             Clocks::Far(far) => far.at(node),
         }
     }
+
+    // Whether these are the same clocks.
+    pub(crate) fn is(&self, other: &Clocks) -> bool
+        requires this { IsVector (vector_in self.now) }
+        requires other { IsVector (vector_in other.now) }
+        ensures { IsTrue result ↔ (vector_in self.now ≡ vector_in other.now) }
+    {
+        match (self, other) {
+            (Clocks::Few(few), Clocks::Few(others)) => is_few(few, others),
+            (Clocks::Near(near), Clocks::Near(others)) => **near == **others,
+            _ => self.vector() == other.vector(),
+        }
+    }
+}
+
+fn is_few(few: &[u32; 8], others: &[u32; 8]) -> bool
+    ensures { IsTrue result ↔ (unpacked few.now ≡ unpacked others.now) }
+{
+    few == others
 }
 
 fn at_few(few: &[u32; 8], node: u32) -> u64

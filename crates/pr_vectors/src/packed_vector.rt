@@ -1,5 +1,5 @@
 // A version vector at rest.
-ghost use Rattle.std.specs.Prelude.{◌≡◌, ◌≤◌, ◌<◌, ◌↔◌, ℕ, IfOk, IsTrue};
+ghost use Rattle.std.specs.Prelude.{◌≡◌, ◌<◌, ◌↔◌, IfOk, IsTrue};
 
 use crate::Vector;
 use crate::clocks::Clocks;
@@ -31,7 +31,16 @@ impl Model for PackedVector {
 const _: () = prove!(size_of::<PackedVector>() == 40);
 
 impl PackedVector {
-    ghost use Rattle.pr_vectors.specs.Vector.{IsVector, Le, clock_of};
+    ghost use Rattle.pr_vectors.specs.Vector.{IsVector, Le, clock_of, zero_vector};
+
+    /// The vector that counts no write, which takes no memory.
+    pub fn zero() -> PackedVector
+        ensures { result ≡ zero_vector }
+    {
+        PackedVector {
+            clocks: Clocks::zero(),
+        }
+    }
 
     /// It takes memory only where the vector does not lie in place.
     pub fn of(alloc: Global, vector: &Vector) -> Result<PackedVector, NoMemory>
@@ -57,14 +66,6 @@ impl PackedVector {
         self.clocks.vector()
     }
 
-    /// How many nodes it has a clock of, in constant time: each behind them has clock 0.
-    pub fn nodes(&self) -> u32
-        ensures most { result ≤ 32 }
-        ensures behind { (n : ℕ) → result ≤ n → n < 32 → clock_of self.now n ≡ 0 }
-    {
-        self.clocks.nodes()
-    }
-
     /// The clock of the node, in constant time.
     pub fn at(&self, node: u32) -> u64
         requires { node < 32 }
@@ -72,6 +73,13 @@ impl PackedVector {
         ensures range { IsVector self.now }
     {
         self.clocks.at(node)
+    }
+
+    /// Whether it is the same vector.
+    pub fn is(&self, other: &PackedVector) -> bool
+        ensures { IsTrue result ↔ (self.now ≡ other.now) }
+    {
+        self.clocks.is(&other.clocks)
     }
 
     /// Whether each clock is at most the other's.

@@ -70,11 +70,14 @@ fn what_is_joined_in_place_is_the_join(rt: HostRuntime) -> Result<(), Fail> {
 fn is_packed(alloc: Global, vector: &Vector) -> Option<bool> {
     let packed = PackedVector::of(alloc, vector).ok()?;
     let copy = packed.copy(alloc).ok()?;
-    Some(is_same(&packed, vector) && is_same(&copy, vector))
+    Some(is_same(&packed, vector) && is_same(&copy, vector) && packed.is(&copy))
 }
 
 fn is_same(packed: &PackedVector, vector: &Vector) -> bool {
-    packed.get() == *vector && packed.le(vector) && packed.at(31) == vector.at(31)
+    packed.get() == *vector
+        && packed.le(vector)
+        && packed.at(31) == vector.at(31)
+        && packed.is(&PackedVector::zero()) == (*vector == Vector::zero())
 }
 
 #[test]
