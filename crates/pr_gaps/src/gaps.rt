@@ -71,6 +71,7 @@ impl Gaps {
         self.rows.len()
     }
 
+    /// The points that a message or an own write told, in constant time.
     pub fn vector(&self) -> &Vector
         ensures value { result.now ≡ self.now.vector }
         ensures range { IsVector result.now }

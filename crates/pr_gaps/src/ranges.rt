@@ -96,18 +96,35 @@ fn touching(ends: &BTreeMap<u64, u64>, lo: u64, hi: u64) -> Option<(u64, u64)>
     }
 }
 
-// The last range that begins at or before the clock.
+// The last range that begins at or before the clock, in constant time where that is the last of all.
 fn last_up_to(ends: &BTreeMap<u64, u64>, most: u64) -> Option<(u64, u64)>
     ensures range { IfSome result (λ r. end_at ends.now.entries r.0 ≡ Some r.1) }
     ensures most { IfSome result (λ r. r.0 ≤ most) }
     ensures last { IfSome result (λ r. (s : ℕ) → IsLeBy nat_cmp s most → IsSome (end_at ends.now.entries s) → is_lt (nat_cmp r.0 s) ≡ false) }
     ensures none { IfNone result ((s : ℕ) → IsLeBy nat_cmp s most → end_at ends.now.entries s ≡ None) }
 {
+    if let Some(last) = last_of_all(ends, most) {
+        return Some(last);
+    }
     match ends
         .range((Bound::Unbounded, Bound::Included(most)))
         .next_back()
     {
         Some((start, end)) => Some((*start, *end)),
         None => None,
+    }
+}
+
+// The last range of all, where it does not begin behind the clock.
+fn last_of_all(ends: &BTreeMap<u64, u64>, most: u64) -> Option<(u64, u64)>
+    ensures range { IfSome result (λ r. end_at ends.now.entries r.0 ≡ Some r.1) }
+    ensures most { IfSome result (λ r. r.0 ≤ most) }
+    ensures last { IfSome result (λ r. (s : ℕ) → IsSome (end_at ends.now.entries s) → is_lt (nat_cmp r.0 s) ≡ false) }
+{
+    let (start, end) = ends.last_key_value()?;
+    if *start <= most {
+        Some((*start, *end))
+    } else {
+        None
     }
 }

@@ -118,6 +118,15 @@ rise_part cs i h = subst Rise (sym (part_is cs i)) (rise_drop cs i h)
 pub up_to_before : (cs : List ℕ) (c at k e d : ℕ) → Rise cs → at < length cs → get_or cs at e ≤ c → k < at → get_or cs k d ≤ c
 up_to_before cs c at k e d h lt le before = omega (arith, h k at d before lt, le, get_or_default cs at d e lt)
 
+-- and the one at the place before, of so many
+pub up_to_last : (cs : List ℕ) (c n k e d : ℕ) → Rise cs → n ≤ length cs → get_or cs (n - 1) e ≤ c → k < n → get_or cs k d ≤ c
+up_to_last cs c n k e d h most le before = elim (less_or k (n - 1)) [
+  | inl less ↦ up_to_before cs c (n - 1) k e d h (omega (arith, most, before)) le less
+  | inr from ↦
+      let same : k ≡ n - 1 = omega (arith, from, before) in
+      subst (λ i. get_or cs i d ≤ c) (sym same) (omega (arith, le, get_or_default cs (n - 1) d e (omega (arith, most, before))))
+]
+
 -- how many are up to the clock is known of a part before which all are
 pub within_part : (cs : List ℕ) (c i r k d : ℕ) → ((k d : ℕ) → k < i → get_or cs k d ≤ c) → (i ≤ k → k < i + r → nat_le (get_or (part cs i) (k - i) d) c ≡ true) → k < i + r → get_or cs k d ≤ c
 within_part cs c i r k d before within lt = elim (less_or k i) [

@@ -19,9 +19,21 @@ not_not false = refl
 
 -- ---- the last set that begins
 
+-- the same at each clock behind its beginning
+pub last_within : (f : ℕ → Option (List Span)) (s c d : ℕ) (u : List Span) → f s ≡ Some u → s ≤ c → c ≤ d → ((t : ℕ) → is_gt (nat_cmp t d) ≡ false → IsSome (f t) → is_lt (nat_cmp s t) ≡ false) → Some u ≡ standing f c
+last_within f s c d u is le up last =
+    sym (stands_on f s c le (λ t above within. none_of (f t) (λ some. omega (arith, above, key_not_less s t (last t (up_to_key t d (omega (arith, within, up))) some)))) ∙ here f s u is)
+
 pub last_is : (f : ℕ → Option (List Span)) (s c : ℕ) (u : List Span) → f s ≡ Some u → s ≤ c → ((t : ℕ) → is_gt (nat_cmp t c) ≡ false → IsSome (f t) → is_lt (nat_cmp s t) ≡ false) → Some u ≡ standing f c
-last_is f s c u is le last =
-    sym (stands_on f s c le (λ t above within. none_of (f t) (λ some. omega (arith, above, key_not_less s t (last t (up_to_key t c within) some)))) ∙ here f s u is)
+last_is f s c u is le last = last_within f s c c u is le (omega arith) last
+
+-- where the set has only names of the target, the names that the target lacks are lit
+pub lit_already : (x : Option (List Span)) (set target : List Span) (o : List ℕ) → Some set ≡ x → (IsTrue (has set o) → IsTrue (has target o)) → lacks x o ≡ (lacks x o || not (has target o))
+lit_already x set target o stands within = subst (λ y. lacks y o ≡ (lacks y o || not (has target o))) stands (covered (has set o) (has target o) within)
+  where
+    covered : (a b : Bool) → (IsTrue a → IsTrue b) → not a ≡ (not a || not b)
+    covered false b h = refl
+    covered true b h = ap not (sym (h refl))
 
 pub none_is : (f : ℕ → Option (List Span)) (c : ℕ) → ((t : ℕ) → is_gt (nat_cmp t c) ≡ false → f t ≡ None) → None ≡ standing f c
 none_is f c none = sym (none_stands f c (λ t le. none t (up_to_key t c le)))

@@ -81,13 +81,14 @@ impl ByClock {
         place_of(&self.clocks, clock).is_some() || self.late.contains_key(&clock)
     }
 
-    // The first write above the clock with its clock, in time logarithmic in the writes above it and in the late ones.
-    #[inline(never)]
-    pub fn first_above(&self, clock: u64) -> Option<(u64, &WriteRec)>
+    // The first write above the clock with its clock, and the place at which it was found. It is looked for at this place
+    // and the next one, in constant time, and then in time logarithmic in the writes above it; and among the late ones in
+    // time logarithmic in these.
+    pub fn first_above(&self, clock: u64, place: &mut usize) -> Option<(u64, &WriteRec)>
         ensures { IsFirstEntry self.now clock (entry_of result) }
     {
         lesser(
-            first_in_order(&self.clocks, &self.writes, clock),
+            first_in_order(&self.clocks, &self.writes, clock, place),
             first_late(&self.late, clock),
         )
     }
@@ -166,17 +167,19 @@ fn is_past(clocks: &[u64], clock: u64) -> bool
     clocks[clocks.len() - 1] < clock
 }
 
-// The first entry above the clock.
+// The first entry above the clock, and its place, looked for at this one first.
 fn first_in_order<'a>(
     clocks: &[u64],
     writes: &'a [WriteRec],
     clock: u64,
+    place: &mut usize,
 ) -> Option<(u64, &'a WriteRec)>
     requires order { Rise clocks.now }
     requires pairs { length clocks.now ≡ length writes.now }
     ensures { IsFirstEntry (zip clocks.now writes.now) clock (entry_of result) }
 {
-    let at = up_to(clocks, clock);
+    let at = up_to_near(clocks, clock, *place);
+    *place = at;
     if at == clocks.len() {
         return None;
     }
@@ -195,6 +198,60 @@ fn place_of(clocks: &[u64], clock: u64) -> Option<usize>
         Some(last)
     } else {
         None
+    }
+}
+
+// How many of the clocks are at most this one: so many, or one more, or else as many as a search finds.
+fn up_to_near(clocks: &[u64], clock: u64, near: usize) -> usize
+    requires { Rise clocks.now }
+    ensures most { result ≤ length clocks.now }
+    ensures within { (k : ℕ) (d : ℕ) → k < result → slice_index_or clocks.now k d ≤ clock }
+    ensures above { (k : ℕ) (d : ℕ) → result ≤ k → k < length clocks.now → clock < slice_index_or clocks.now k d }
+{
+    if is_place(clocks, clock, near) {
+        return near;
+    }
+    let next = near.saturating_add(1);
+    if is_place(clocks, clock, next) {
+        return next;
+    }
+    up_to(clocks, clock)
+}
+
+// Whether just so many of the clocks are at most this one.
+fn is_place(clocks: &[u64], clock: u64, place: usize) -> bool
+    requires { Rise clocks.now }
+    ensures most { IsTrue result → place ≤ length clocks.now }
+    ensures within { IsTrue result → (k : ℕ) (d : ℕ) → k < place → slice_index_or clocks.now k d ≤ clock }
+    ensures above { IsTrue result → (k : ℕ) (d : ℕ) → place ≤ k → k < length clocks.now → clock < slice_index_or clocks.now k d }
+{
+    is_up_to(clocks, clock, place) && is_above(clocks, clock, place)
+}
+
+// Whether there are so many clocks, each at most this one.
+fn is_up_to(clocks: &[u64], clock: u64, place: usize) -> bool
+    requires { Rise clocks.now }
+    ensures most { IsTrue result → place ≤ length clocks.now }
+    ensures within { IsTrue result → (k : ℕ) (d : ℕ) → k < place → slice_index_or clocks.now k d ≤ clock }
+{
+    if place > clocks.len() {
+        return false;
+    }
+    if place > 0 && clocks[place - 1] > clock {
+        return false;
+    }
+    true
+}
+
+// Whether each clock from this place on is above this one.
+fn is_above(clocks: &[u64], clock: u64, place: usize) -> bool
+    requires { Rise clocks.now }
+    ensures { IsTrue result → (k : ℕ) (d : ℕ) → place ≤ k → k < length clocks.now → clock < slice_index_or clocks.now k d }
+{
+    if place < clocks.len() {
+        clocks[place] > clock
+    } else {
+        true
     }
 }
 

@@ -9,10 +9,10 @@ ghost use Rattle.pr_inval.specs.declared.write_rec.WriteRec.{WriteRec};
 ghost use Rattle.pr_vectors.specs.Vector.{clock_of};
 ghost use Rattle.std.specs.Prelude.{◌≡◌, ◌≤◌, ◌<◌, ◌+◌, ◌⊎◌, ◌↔◌, ℕ, List, [], length, slice_index_or, IfNone, IfOk, IfSome, IsTrue, OnErr, OnOk, Some, false, option_copied};
 
-use crate::Steps;
 use crate::between::only_between;
 use crate::collector::Collector;
 use crate::writes::Writes;
+use crate::{Near, Steps};
 use pr_inval::WriteRec;
 use pr_sets::NameSet;
 use pr_stamps::{NODES, NoMemory};
@@ -79,12 +79,14 @@ impl Index {
         self.nodes
     }
 
-    /// The known write of the node with the least clock above this one, in time logarithmic in the node's writes, as
-    /// one step; None exactly where there is none.
+    /// The known write of the node with the least clock above this one, as one step; None exactly where there is none.
+    /// It takes constant time where it stands where the last one was found, or right behind, and else time logarithmic in
+    /// the node's writes.
     pub fn next<L: Ledger>(
         &self,
         writer: u32,
         clock: u64,
+        near: &mut Near,
         steps: &mut Steps<L>,
     ) -> Option<&WriteRec>
         requires { writer < 32 }
@@ -92,7 +94,10 @@ impl Index {
         ensures step { steps.new ≡ steps.old + 1 }
     {
         steps.tick();
-        self.first_above(writer, clock)
+        let mut place = near.at(writer);
+        let found = self.first_above(writer, clock, &mut place);
+        near.found(writer, place);
+        found
     }
 
     // The names of known writes between the vectors that are none of these, in time logarithmic in the writes of a
@@ -197,7 +202,8 @@ impl Index {
         ensures { OnOk result ((o : List ℕ) → IsName o → IsTrue (is_gathered names.new o) ↔ (IsTrue (is_gathered names.old o) ⊎ IsOmittedOf self.now sub.now writer from to o)) }
     {
         let mut clock = from;
-        while let Some(write) = self.first_between(writer, clock, to) {
+        let mut place = 0usize;
+        while let Some(write) = self.first_between(writer, clock, to, &mut place) {
             names.add_outside(sub, &write.name)?;
             clock = write.stamp.clock();
         }
@@ -248,13 +254,13 @@ impl Index {
         self.rows[writer as usize].is_much_above(clock)
     }
 
-    // The node's first known write above one clock, if it is not above another.
-    fn first_between(&self, writer: u32, from: u64, to: u64) -> Option<&WriteRec>
+    // The node's first known write above one clock, if it is not above another, looked for at this place first.
+    fn first_between(&self, writer: u32, from: u64, to: u64, place: &mut usize) -> Option<&WriteRec>
         requires { writer < 32 }
         ensures some { IfSome (option_copied result) (λ w. (w.stamp.clock ≤ to) × IsFirstAbove self.now writer from (Some w)) }
         ensures none { IfNone (option_copied result) ((x : WriteRec) → Has self.now x → x.stamp.node ≡ writer → from < x.stamp.clock → to < x.stamp.clock) }
     {
-        match self.first_above(writer, from) {
+        match self.first_above(writer, from, place) {
             Some(write) => up_to(write, to),
             None => None,
         }
@@ -276,12 +282,13 @@ impl Index {
     }
 
     // The known write of the node with the least clock above this one. It counts no step, so no other module has it.
+    // It is looked for at this place first.
     #[inline]
-    fn first_above(&self, writer: u32, clock: u64) -> Option<&WriteRec>
+    fn first_above(&self, writer: u32, clock: u64, place: &mut usize) -> Option<&WriteRec>
         requires { writer < 32 }
         ensures { IsFirstAbove self.now writer clock (option_copied result) }
     {
-        self.rows[writer as usize].first_above(clock)
+        self.rows[writer as usize].first_above(clock, place)
     }
 }
 

@@ -8,6 +8,7 @@ mod dark;
 pub mod index;
 mod latest;
 mod log;
+mod near;
 mod segments;
 mod steps;
 #[cfg(test)]
@@ -17,4 +18,5 @@ mod writes;
 
 pub use index::Index;
 pub use log::Log;
+pub use near::Near;
 pub use steps::Steps;

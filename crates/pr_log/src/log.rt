@@ -11,7 +11,7 @@ ghost use Rattle.std.specs.Prelude.{◌≡◌, ◌≤◌, ◌<◌, ◌+◌, ◌�
 
 use crate::dark::Dark;
 use crate::index::Index;
-use crate::{Steps, waiting};
+use crate::{Near, Steps, waiting};
 use pr_inval::WriteRec;
 use pr_sets::NameSet;
 use pr_stamps::NoMemory;
@@ -171,10 +171,11 @@ impl Log {
     /// there is none. It takes the time of `next_write_counted` three times over at most. Behind 16 looks at writes to
     /// other names, and behind twice as many each time, it looks at as many intervals of the subscription, and names in
     /// them, of the nodes that wrote past the position; where these are all and none waits, it ends. It takes no memory.
-    pub fn next_write(&self, pos: &Vector, sub: &NameSet) -> Option<WriteRec>
-        ensures { IsNextOf self.now.known pos.now sub.now result }
+    /// What is near a position a little before this one, of the same stream, makes its looks shorter.
+    pub fn next_write(&self, pos: &Vector, sub: &NameSet, near: &mut Near) -> Option<&WriteRec>
+        ensures { IsNextOf self.now.known pos.now sub.now (option_copied result) }
     {
-        uncounted::<Brand>(&self.known, pos, sub, Blank::new(1))
+        uncounted::<Brand>(&self.known, pos, sub, near, Blank::new(1))
     }
 
     /// The write that `next_write` gives, with each look at the index as one step: one for each node up to the last that
@@ -184,12 +185,13 @@ impl Log {
         &self,
         pos: &Vector,
         sub: &NameSet,
+        near: &mut Near,
         steps: &mut Steps<L>,
-    ) -> Option<WriteRec>
-        ensures next { IsNextOf self.now.known pos.now sub.now result }
+    ) -> Option<&WriteRec>
+        ensures next { IsNextOf self.now.known pos.now sub.now (option_copied result) }
         ensures few { steps.new ≤ steps.old + uncovered self.now.known pos.now + 32 }
     {
-        waiting::next_write(&self.known, pos, sub, 0, steps)
+        waiting::next_write(&self.known, pos, sub, 0, near, steps)
     }
 
     /// The names that are dark at a point between the vectors. For each node it takes time logarithmic in the dark sets
@@ -238,19 +240,20 @@ impl Log {
 }
 
 // The next write, with a count that is let go.
-fn uncounted<L: Ledger>(
-    index: &Index,
+fn uncounted<'a, L: Ledger>(
+    index: &'a Index,
     pos: &Vector,
     sub: &NameSet,
+    near: &mut Near,
     blank: Blank,
-) -> Option<WriteRec>
+) -> Option<&'a WriteRec>
     requires name { blank.name ≡ L.name }
     requires parts { blank.parts ≡ L.parts }
     requires some { 0 < L.parts }
-    ensures { IsNextOf index.now pos.now sub.now result }
+    ensures { IsNextOf index.now pos.now sub.now (option_copied result) }
 {
     let mut steps = Steps::<L>::new(blank);
-    waiting::next_write(index, pos, sub, FIRST_ASK, &mut steps)
+    waiting::next_write(index, pos, sub, FIRST_ASK, near, &mut steps)
 }
 
 // Keeps the write, if the cut does not cover it and it is the first with its stamp.

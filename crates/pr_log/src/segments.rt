@@ -54,6 +54,9 @@ impl Segments {
         ensures within { OnOk result ((o : List ℕ) (c : ℕ) → IsName o → lo ≤ c → c ≤ hi → is_lit_at self.new o c ≡ (is_lit_at self.old o c || not (has target.now o))) }
         ensures others { OnOk result ((o : List ℕ) (c : ℕ) → IsName o → (c < lo) ⊎ (hi < c) → is_lit_at self.new o c ≡ is_lit_at self.old o c) }
     {
+        if stands_within(&self.sets, lo, hi, target) {
+            return Ok(());
+        }
         if stands_past(&self.sets, lo, hi) {
             return put_off(&mut self.sets, self.alloc, lo, hi, target);
         }
@@ -88,6 +91,17 @@ impl Segments {
             clock = start;
         }
         Ok(())
+    }
+}
+
+// Whether one set stands at all these clocks, and has only names of the target, as where the same was told before.
+fn stands_within(sets: &Map, lo: u64, hi: u64, target: &NameSet) -> bool
+    requires { hi ≤ 4611686018427387903 }
+    ensures { IsTrue result → (o : List ℕ) (c : ℕ) → IsName o → lo ≤ c → c ≤ hi → is_lit_at sets.now.entries o c ≡ (is_lit_at sets.now.entries o c || not (has target.now o)) }
+{
+    match last_entry(sets, hi) {
+        Some((start, set)) => start <= lo && set.within(target),
+        None => false,
     }
 }
 
@@ -262,19 +276,36 @@ fn last_up_to(sets: &Map, clock: u64) -> Option<u64>
     }
 }
 
-// The last entry up to the clock.
+// The last entry up to the clock, in constant time where that is the last of all.
 fn last_entry(sets: &Map, clock: u64) -> Option<(u64, &NameSet)>
     ensures entry { IfSome result (λ e. begins_at sets.now.entries e.0 ≡ Some e.1.now) }
     ensures within { IfSome result (λ e. e.0 ≤ clock) }
     ensures last { IfSome result (λ e. (s : ℕ) → IsLeBy nat_cmp s clock → IsSome (begins_at sets.now.entries s) → is_lt (nat_cmp e.0 s) ≡ false) }
     ensures none { IfNone result ((s : ℕ) → IsLeBy nat_cmp s clock → begins_at sets.now.entries s ≡ None) }
 {
+    if let Some(last) = last_of_all(sets, clock) {
+        return Some(last);
+    }
     match sets
         .range((Bound::Unbounded, Bound::Included(clock)))
         .next_back()
     {
         Some((start, set)) => Some((*start, set)),
         None => None,
+    }
+}
+
+// The last entry of all, where it is not past the clock.
+fn last_of_all(sets: &Map, clock: u64) -> Option<(u64, &NameSet)>
+    ensures entry { IfSome result (λ e. begins_at sets.now.entries e.0 ≡ Some e.1.now) }
+    ensures within { IfSome result (λ e. e.0 ≤ clock) }
+    ensures last { IfSome result (λ e. (s : ℕ) → IsSome (begins_at sets.now.entries s) → is_lt (nat_cmp e.0 s) ≡ false) }
+{
+    let (start, set) = sets.last_key_value()?;
+    if *start <= clock {
+        Some((*start, set))
+    } else {
+        None
     }
 }
 

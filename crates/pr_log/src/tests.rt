@@ -2,7 +2,7 @@ ghost use Rattle.pr_log.specs.Known.{uncovered};
 ghost use Rattle.pr_vectors.specs.Vector.{zero_vector};
 ghost use Rattle.std.specs.Prelude.{◌≡◌, ◌≤◌, ◌<◌, ◌+◌, ℕ, List, IfOk, OnOk};
 
-use crate::{Log, Steps};
+use crate::{Log, Near, Steps};
 use pr_inval::WriteRec;
 use pr_names::Name;
 use pr_sets::NameSet;
@@ -125,9 +125,13 @@ fn omitted(alloc: Global, log: &Log, sub: &[u8]) -> Result<Seq<u8>, Fail> {
 // The stamp of the next write to one of the names.
 fn next(alloc: Global, log: &Log, pos: &Vector, sub: &[u8]) -> Result<Option<Stamp>, Fail> {
     let sub = set(alloc, sub)?;
-    match log.next_write(pos, &sub) {
-        Some(write) => Ok(Some(write.stamp)),
-        None => Ok(None),
+    Ok(next_near(log, pos, &sub, &mut Near::new()))
+}
+
+fn next_near(log: &Log, pos: &Vector, sub: &NameSet, near: &mut Near) -> Option<Stamp> {
+    match log.next_write(pos, sub, near) {
+        Some(write) => Some(write.stamp),
+        None => None,
     }
 }
 
@@ -225,14 +229,18 @@ fn long_log(alloc: Global) -> Result<Log, Fail>
 }
 
 // The next write from zero.
-fn next_in_steps<L: Ledger>(log: &Log, sub: &NameSet, steps: &mut Steps<L>) -> Option<WriteRec>
+fn next_in_steps<'a, L: Ledger>(
+    log: &'a Log,
+    sub: &NameSet,
+    steps: &mut Steps<L>,
+) -> Option<&'a WriteRec>
     requires { uncovered log.now.known zero_vector ≤ 101 }
     ensures { steps.new ≤ steps.old + 133 }
 {
-    log.next_write_counted(&Vector::zero(), sub, steps)
+    log.next_write_counted(&Vector::zero(), sub, &mut Near::new(), steps)
 }
 
-fn next_counted<L: Ledger>(log: &Log, sub: &NameSet, blank: Blank) -> Option<WriteRec>
+fn next_counted<'a, L: Ledger>(log: &'a Log, sub: &NameSet, blank: Blank) -> Option<&'a WriteRec>
     requires name { blank.name ≡ L.name }
     requires parts { blank.parts ≡ L.parts }
     requires some { 0 < L.parts }
@@ -250,5 +258,28 @@ fn a_write_behind_a_hundred_is_found_in_133_steps(rt: HostRuntime) -> Result<(),
         Some(write) => assert!(rt; Some(write.stamp) == Stamp::new(101, A)),
         None => return Err(Fail::from("a write")),
     }
+    Ok(())
+}
+
+// Whether the clocks from 1 to 100 are each found behind the one before it, and again from the first on.
+fn are_found_in_turn(log: &Log, sub: &NameSet) -> bool {
+    let mut near = Near::new();
+    for told in 0..200u64 {
+        let mut pos = Vector::zero();
+        if let Some(stamp) = Stamp::new(told % 100, A) {
+            pos.raise(&stamp);
+        }
+        if next_near(log, &pos, sub, &mut near) != Stamp::new(told % 100 + 1, A) {
+            return false;
+        }
+    }
+    true
+}
+
+#[test]
+fn a_place_that_is_kept_finds_what_a_search_finds(rt: HostRuntime) -> Result<(), Fail> {
+    let log = long_log(rt.alloc())?;
+    let sub = set(rt.alloc(), b"b")?;
+    assert!(rt; are_found_in_turn(&log, &sub));
     Ok(())
 }

@@ -5,8 +5,8 @@ ghost use Rattle.pr_log.specs.Waiting.{AreListed, IsLeastHead, IsLesser, IsNextO
 ghost use Rattle.pr_vectors.specs.Vector.{clock_of};
 ghost use Rattle.std.specs.Prelude.{◌≡◌, ◌≤◌, ◌<◌, ◌+◌, ℕ, IfSome, IsTrue, length, option_copied};
 
-use crate::Steps;
 use crate::index::Index;
+use crate::{Near, Steps};
 use pr_inval::WriteRec;
 use pr_sets::NameSet;
 use pr_vectors::Vector;
@@ -65,23 +65,29 @@ impl Nodes {
 // order of stamps, so that a write is looked at only if it comes before the answer or is the first of its node. To look at
 // one takes time linear in the nodes that have one left. Behind `first` looks at writes to other names, and behind twice
 // as many, and so on, it is asked whether a write waits at all; 0 is never.
-pub fn next_write<L: Ledger>(
-    index: &Index,
+pub fn next_write<'a, L: Ledger>(
+    index: &'a Index,
     pos: &Vector,
     sub: &NameSet,
     first: usize,
+    near: &mut Near,
     steps: &mut Steps<L>,
-) -> Option<WriteRec>
-    ensures next { IsNextOf index.now pos.now sub.now result }
+) -> Option<&'a WriteRec>
+    ensures next { IsNextOf index.now pos.now sub.now (option_copied result) }
     ensures few { steps.new ≤ steps.old + uncovered index.now pos.now + 32 }
 {
     index.by_stamp();
-    let (mut heads, mut nodes) = heads(index, pos, steps);
+    let mut heads = [None; 32];
+    let mut nodes = Nodes {
+        at: [0; 32],
+        count: 0,
+    };
+    find_heads(index, pos, &mut heads, &mut nodes, near, steps);
     let mut looks = 0usize;
     let mut ask = first;
     while let Some(write) = least(&heads, &nodes) {
         if sub.has(&write.name) {
-            return Some(*write);
+            return Some(write);
         }
         looks = looks.saturating_add(1);
         if is_none_left(index, pos, sub, looks, ask) {
@@ -89,7 +95,7 @@ pub fn next_write<L: Ledger>(
         }
         ask = ask_after(looks, ask);
         let node = write.stamp.node();
-        heads[node as usize] = index.next(node, write.stamp.clock(), steps);
+        heads[node as usize] = index.next(node, write.stamp.clock(), near, steps);
         nodes.take_out(&heads, node);
     }
     None
@@ -112,22 +118,26 @@ fn ask_after(looks: usize, ask: usize) -> usize {
     }
 }
 
-// The first writes past the position, and the nodes that have one.
-fn heads<'a, L: Ledger>(index: &'a Index, pos: &Vector, steps: &mut Steps<L>) -> (Heads<'a>, Nodes)
-    ensures each { (n : ℕ) → n < 32 → IsFirstAbove index.now n (clock_of pos.now n) (head_of result.0 n) }
-    ensures listed { AreListed result.0 result.1.at result.1.count 32 }
+// Finds the first writes past the position, and lists the nodes that have one. They are put where they stay, since they
+// are long to move.
+fn find_heads<'a, L: Ledger>(
+    index: &'a Index,
+    pos: &Vector,
+    heads: &mut Heads<'a>,
+    nodes: &mut Nodes,
+    near: &mut Near,
+    steps: &mut Steps<L>,
+)
+    requires none { (n : ℕ) → head_of heads.old n ≡ None }
+    requires empty { nodes.old.count ≡ 0 }
+    ensures each { (n : ℕ) → n < 32 → IsFirstAbove index.now n (clock_of pos.now n) (head_of heads.new n) }
+    ensures listed { AreListed heads.new nodes.new.at nodes.new.count 32 }
     ensures steps { steps.new ≤ steps.old + 32 }
 {
-    let mut heads = [None; 32];
-    let mut nodes = Nodes {
-        at: [0; 32],
-        count: 0,
-    };
     for n in 0..index.nodes() {
-        heads[n as usize] = index.next(n, pos.at(n), steps);
-        nodes.put(&heads, n);
+        heads[n as usize] = index.next(n, pos.at(n), near, steps);
+        nodes.put(heads, n);
     }
-    (heads, nodes)
 }
 
 // The least of the heads by stamp.

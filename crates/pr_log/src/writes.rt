@@ -81,15 +81,16 @@ impl Writes {
         self.last >= clock && self.by_clock.has(clock)
     }
 
-    // The first write above the clock, in logarithmic time, and past the last clock in constant time.
+    // The first write above the clock, and the place at which it was found; it is looked for at this one first. It takes
+    // logarithmic time, and past the last clock, or where it is found there, constant time.
     #[inline]
-    pub fn first_above(&self, clock: u64) -> Option<&WriteRec>
+    pub fn first_above(&self, clock: u64, place: &mut usize) -> Option<&WriteRec>
         ensures { IsFirstIn self.now clock (option_copied result) }
     {
         if self.last <= clock {
             return None;
         }
-        match self.by_clock.first_above(clock) {
+        match self.by_clock.first_above(clock, place) {
             Some((_, write)) => Some(write),
             None => None,
         }

@@ -3,6 +3,7 @@ ghost use Rattle.pr_inval.specs.Standing.{means};
 ghost use Rattle.pr_inval.specs.Targets.{IsTargetFor};
 ghost use Rattle.pr_inval.specs.declared.kind.Kind.TheVariants.{Precise};
 ghost use Rattle.pr_log.specs.Log.{IsOmittedIn};
+ghost use Rattle.pr_log.specs.Waiting.{IsNextOf};
 ghost use Rattle.pr_names.specs.Name.{IsName};
 ghost use Rattle.pr_node.specs.Sending.{IsImpreciseOf, IsOmittedSet, IsSentOf};
 ghost use Rattle.pr_node.specs.Ties.{IsLogOf};
@@ -13,8 +14,9 @@ ghost use Rattle.pr_story.specs.Told.{IsDarkBetween};
 ghost use Rattle.pr_story.specs.Turns.{IsOmitted};
 ghost use Rattle.pr_story.specs.declared.entry.Entry.{Entry};
 ghost use Rattle.pr_vectors.specs.Vector.{Le, join_of};
-ghost use Rattle.std.specs.Prelude.{◌≡◌, ◌⊎◌, ◌↔◌, ℕ, List, IfOk, IsOk, IsTrue, false};
+ghost use Rattle.std.specs.Prelude.{◌≡◌, ◌⊎◌, ◌↔◌, ℕ, List, None, IfOk, IsOk, IsTrue, false};
 
+use crate::Scan;
 use crate::ranges::write_in_range;
 use pr_inval::{Kind, Msg, Session, TARGET_INTERVALS, WriteRec, target_for};
 use pr_log::Log;
@@ -42,27 +44,49 @@ pub fn ahead(
     names: &NameSet,
     position: &Vector,
     session: &Session,
+    scan: &mut Scan,
     time: u64,
 ) -> Result<Event, NoMemory>
     requires cut { Le log.now.cut position.now }
+    ensures scan { scan.new ≡ scan.old }
     ensures next { IfOk result (λ event. (n : ℕ) (j : List Entry) → IsLogOf n j log.now → IsSentOf (IsAhead n j names.now position.now) (means session.now) time event) }
     ensures range { IfOk result IsInRange }
 {
     let vector = log.vector();
-    let Some(write) = log.next_write(position, names) else {
-        let mut to = *position;
-        to.join_in(vector);
-        let found = found_between(alloc, log, names, position, &to)?;
-        return imprecise(alloc, &found, names, position, &to, session, time);
+    let Some(write) = scan.next_write(log, position, names) else {
+        return rest(alloc, log, names, position, session, time);
     };
     let mut before = *position;
     before.join_below(vector, &write.stamp);
     let found = found_between(alloc, log, names, position, &before)?;
     if is_nothing(&found) {
         before.raise_within(&write.stamp, vector);
-        return precise(alloc, position, &before, &write, session, time);
+        return precise(alloc, position, &before, write, session, time);
     }
     imprecise(alloc, &found, names, position, &before, session, time)
+}
+
+// The event that sends the invalidation up to the log's vector, where no write waits. It has a vector of its own, which
+// a call that finds a write need not clear.
+#[inline(never)]
+fn rest(
+    alloc: Global,
+    log: &Log,
+    names: &NameSet,
+    position: &Vector,
+    session: &Session,
+    time: u64,
+) -> Result<Event, NoMemory>
+    requires cut { Le log.now.cut position.now }
+    requires none { IsNextOf log.now.known position.now names.now None }
+    ensures next { IfOk result (λ event. (n : ℕ) (j : List Entry) → IsLogOf n j log.now → IsSentOf (IsAhead n j names.now position.now) (means session.now) time event) }
+    ensures range { IfOk result IsInRange }
+{
+    let vector = log.vector();
+    let mut to = *position;
+    to.join_in(vector);
+    let found = found_between(alloc, log, names, position, &to)?;
+    imprecise(alloc, &found, names, position, &to, session, time)
 }
 
 // What is withheld between two vectors. Where no point lies between them, as mostly, that is nothing.

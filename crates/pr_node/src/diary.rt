@@ -130,7 +130,7 @@ impl Diary {
         self.finish(time, caller, Event::Sent { msg });
     }
 
-    // Makes the entry of a client's write.
+    // Makes the entry of a client's write. The vector is packed by the caller, before the stores take the write.
     pub fn wrote(
         &mut self,
         time: u64,
@@ -138,15 +138,13 @@ impl Diary {
         client: u32,
         write: &WriteRec,
         body: Bytes,
-        after: &Vector,
-    ) -> Result<(), NoMemory>
+        after: PackedVector,
+    )
         requires room { 0 < self.old.entries.room }
         requires early { time ≤ 4611686018427387903 }
-        ensures items { OnOk result (self.new.entries.items ≡ self.old.entries.items ++ (record { time = time; caller = caller; event = Wrote client write.now body after.now }) ∷ []) }
-        ensures spent { OnOk result (self.new.spent ≡ false) }
-        ensures err { OnErr result (self.new ≡ self.old) }
+        ensures items { self.new.entries.items ≡ self.old.entries.items ++ (record { time = time; caller = caller; event = Wrote client write.now body after }) ∷ [] }
+        ensures spent { self.new.spent ≡ false }
     {
-        let after = PackedVector::of(self.alloc, after)?;
         let event = Event::Wrote {
             client,
             write: *write,
@@ -154,7 +152,6 @@ impl Diary {
             after,
         };
         self.finish(time, caller, event);
-        Ok(())
     }
 
     // Makes the entry that a client's read was answered.

@@ -1,24 +1,31 @@
-// How far a stream's source has looked for bodies to send.
+// How far a stream's source has looked for what to send.
+ghost use Rattle.pr_log.specs.Waiting.{IsNextOf};
 ghost use Rattle.pr_marks.specs.Table.{is_after};
 ghost use Rattle.pr_names.specs.Order.{name_lt};
 ghost use Rattle.pr_node.specs.Scanning.{HasAwaited, Scanned, fresh};
+ghost use Rattle.std.specs.Option.{option_copied};
 ghost use Rattle.std.specs.Prelude.{◌≡◌, [], ◌∷◌, All, MatchOption, OnErr, OnOk, Some, drop, not, false, slice_get};
 
+use pr_inval::WriteRec;
+use pr_log::{Log, Near};
 use pr_names::Name;
 use pr_sets::NameSet;
 use pr_stamps::NoMemory;
+use pr_vectors::Vector;
 use std::alloc::Global;
 use std::collections::BTreeSet;
 use std::marker::Model;
 
 /// How far a stream's source has looked for bodies to send, so that a turn looks only at what changed since the last
 /// one. It is kept beside the stream's session, for the node that is the stream's source, and begins anew where the
-/// session does. It takes memory for the names that wait to be looked at again.
+/// session does. It takes memory for the names that wait to be looked at again. It keeps too where the writes past the
+/// stream's position were found last, of which contracts see nothing.
 #[derive(Drop)]
 pub struct Scan {
     looked: usize,
     last: Option<Name>,
     waiting: BTreeSet<Name>,
+    near: Near,
 }
 
 impl Model for Scan {
@@ -38,6 +45,7 @@ impl Scan {
             looked: 0,
             last: None,
             waiting: BTreeSet::new(alloc),
+            near: Near::new(),
         }
     }
 
@@ -48,6 +56,19 @@ impl Scan {
         self.looked = 0;
         self.last = None;
         self.waiting.clear();
+    }
+
+    // The write that a stream of these names sends next from this position.
+    pub(crate) fn next_write<'a>(
+        &mut self,
+        log: &'a Log,
+        position: &Vector,
+        names: &NameSet,
+    ) -> Option<&'a WriteRec>
+        ensures next { IsNextOf log.now.known position.now names.now (option_copied result) }
+        ensures same { self.new ≡ self.old }
+    {
+        log.next_write(position, names, &mut self.near)
     }
 
     pub(crate) fn looked(&self) -> usize

@@ -5,7 +5,7 @@ ghost use Rattle.pr_bodies.specs.Bodies.{IsSettled};
 ghost use Rattle.pr_node.specs.Taking.{AreSettled, HasTaken, IsBodyTaken, IsGap, IsLate, LeavesBodies};
 ghost use Rattle.pr_vectors.specs.Vector.{Le};
 ghost use Rattle.pr_inval.specs.Messages.{IsKind};
-ghost use Rattle.std.specs.Prelude.{◌≡◌, ◌↔◌, IsTrue, OnOk};
+ghost use Rattle.std.specs.Prelude.{◌≡◌, ◌↔◌, None, Some, IsTrue, MatchOption, OnOk};
 
 use crate::Stores;
 use crate::writing::mark_of;
@@ -15,16 +15,16 @@ use pr_marks::{Marks, Newest};
 use pr_names::Name;
 use pr_sets::NameSet;
 use pr_stamps::{NoMemory, Stamp};
-use pr_vectors::Vector;
+use pr_vectors::{PackedVector, Vector};
 use std::alloc::Global;
 
 // The start of an invalidation whose points do not follow what a node with this vector was told.
-pub fn gap(kind: &Kind, has: &Vector) -> Option<Vector>
-    ensures { IsGap kind.now has.now result }
+pub fn gap<'a>(kind: &'a Kind, has: &Vector) -> Option<&'a PackedVector>
+    ensures { MatchOption result (IsGap kind.now has.now None) (λ needs. IsGap kind.now has.now (Some needs.now)) }
 {
     match kind {
         Kind::Precise { from, .. } | Kind::Imprecise { from, .. } => {
-            if from.le(has) { None } else { Some(from.get()) }
+            if from.le(has) { None } else { Some(from) }
         }
         Kind::Checkpoint { .. } | Kind::Body { .. } => None,
     }
@@ -40,22 +40,14 @@ pub fn take(alloc: Global, stores: &mut Stores, kind: &Kind) -> Result<(), NoMem
     ensures sets { stores.new.gaps.sets ≡ stores.old.gaps.sets }
 {
     match kind {
-        Kind::Precise { from, to, write } => take_precise(
-            alloc,
-            stores,
-            &from.get(),
-            &to.get(),
-            write,
-        ),
-        Kind::Imprecise { from, to, target } => {
-            take_imprecise(stores, &from.get(), &to.get(), target)
-        }
+        Kind::Precise { from, to, write } => take_precise(alloc, stores, from, to, write),
+        Kind::Imprecise { from, to, target } => take_imprecise(stores, from, to, target),
         Kind::Checkpoint {
             to,
             target,
             floor,
             rows,
-        } => take_checkpoint(stores, &to.get(), target, &floor.get(), rows.as_slice()),
+        } => take_checkpoint(stores, to, target, floor, rows.as_slice()),
         Kind::Body { name, stamp, bytes } => take_body(stores, name, stamp, bytes.as_slice()),
     }
 }
@@ -64,8 +56,8 @@ pub fn take(alloc: Global, stores: &mut Stores, kind: &Kind) -> Result<(), NoMem
 fn take_precise(
     alloc: Global,
     stores: &mut Stores,
-    from: &Vector,
-    to: &Vector,
+    from: &PackedVector,
+    to: &PackedVector,
     write: &WriteRec,
 ) -> Result<(), NoMemory>
     requires grammar { IsKind (Precise from.now to.now write.now) }
@@ -75,10 +67,12 @@ fn take_precise(
     ensures bodies { OnOk result (IsSettled stores.old.bodies stores.new.bodies write.now.name write.now.stamp) }
     ensures sets { stores.new.gaps.sets ≡ stores.old.gaps.sets }
 {
+    let from = from.get();
+    let to = to.get();
     let none = NameSet::empty(alloc);
     let mark = mark_of(write);
-    stores.log.refine(from, to, &none, Some(write))?;
-    stores.gaps.cover(from, to, &none)?;
+    stores.log.refine(&from, &to, &none, Some(write))?;
+    stores.gaps.cover(&from, &to, &none)?;
     stores.bodies.settle(&write.name, &write.stamp);
     stores.marks.add(&write.name, &mark, write.gone)?;
     Ok(())
@@ -86,8 +80,8 @@ fn take_precise(
 
 fn take_imprecise(
     stores: &mut Stores,
-    from: &Vector,
-    to: &Vector,
+    from: &PackedVector,
+    to: &PackedVector,
     target: &NameSet,
 ) -> Result<(), NoMemory>
     requires grammar { IsKind (Imprecise from.now to.now target.now) }
@@ -97,16 +91,18 @@ fn take_imprecise(
     ensures bodies { OnOk result (stores.new.bodies ≡ stores.old.bodies) }
     ensures sets { stores.new.gaps.sets ≡ stores.old.gaps.sets }
 {
-    stores.log.refine(from, to, target, None)?;
-    stores.gaps.cover(from, to, target)?;
+    let from = from.get();
+    let to = to.get();
+    stores.log.refine(&from, &to, target, None)?;
+    stores.gaps.cover(&from, &to, target)?;
     Ok(())
 }
 
 fn take_checkpoint(
     stores: &mut Stores,
-    to: &Vector,
+    to: &PackedVector,
     target: &NameSet,
-    floor: &Vector,
+    floor: &PackedVector,
     rows: &[Row],
 ) -> Result<(), NoMemory>
     requires grammar { IsKind (Checkpoint to.now target.now floor.now rows.now) }
@@ -114,8 +110,17 @@ fn take_checkpoint(
     ensures bodies { OnOk result (AreSettled stores.old.bodies stores.new.bodies rows.now) }
     ensures sets { stores.new.gaps.sets ≡ stores.old.gaps.sets }
 {
-    stores.log.darken(to)?;
-    pr_snap::apply(&mut stores.gaps, &mut stores.marks, to, target, floor, rows)?;
+    let to = to.get();
+    let floor = floor.get();
+    stores.log.darken(&to)?;
+    pr_snap::apply(
+        &mut stores.gaps,
+        &mut stores.marks,
+        &to,
+        target,
+        &floor,
+        rows,
+    )?;
     settle_rows(&mut stores.bodies, rows);
     Ok(())
 }

@@ -6,9 +6,10 @@ ghost use Rattle.pr_node.specs.Scanning.{IsScanOf};
 ghost use Rattle.pr_node.specs.Sending.{IsBodyTurn, IsNextTurn, IsOfKind, IsTurnOf};
 ghost use Rattle.pr_node.specs.Ties.{IsTied};
 ghost use Rattle.pr_story.specs.Ranges.{IsInRange, IsKind, IsMsg};
-ghost use Rattle.pr_story.specs.Turns.{event_of};
-ghost use Rattle.pr_story.specs.declared.event.Event.TheVariants.{Sent};
-ghost use Rattle.std.specs.Prelude.{◌≡◌, ◌≤◌, ◌<◌, ◌+◌, ℕ, IfOk, IsTrue, OnOk, reverse};
+ghost use Rattle.pr_story.specs.Turns.{IdleTurn, IsTurn, event_of};
+ghost use Rattle.pr_story.specs.declared.entry.Entry.{Entry};
+ghost use Rattle.pr_story.specs.declared.event.Event.TheVariants.{Idle, Sent};
+ghost use Rattle.std.specs.Prelude.{◌≡◌, ◌≤◌, ◌<◌, ◌+◌, ℕ, List, IfOk, IsTrue, OnOk, reverse};
 ghost use Rattle.pr_story.specs.Sessions.{HasGoneOn};
 
 use crate::ahead::ahead;
@@ -45,6 +46,7 @@ pub fn next_turn(
     next_event(alloc, stores, entries, session, scan, time)
 }
 
+// The same, without a look at the room.
 fn next_event(
     alloc: Global,
     stores: &Stores,
@@ -66,7 +68,15 @@ fn next_event(
         return Ok(Event::Stale { stream, cut });
     }
     if !stores.log.vector().le(position) {
-        return ahead(alloc, &stores.log, session.sub(), position, session, time);
+        return ahead(
+            alloc,
+            &stores.log,
+            session.sub(),
+            position,
+            session,
+            scan,
+            time,
+        );
     }
     if session.bodies() {
         return send_body(alloc, stores, entries, session, scan, time);
@@ -129,6 +139,20 @@ pub fn step_of(alloc: Global, event: &Event) -> Result<Step, NoMemory>
     }
 }
 
+// Whether a stream that sends no bodies has told all.
+pub fn is_idle(stores: &Stores, session: &Session) -> bool
+    ensures { IsTrue result → (n : ℕ) (j : List Entry) → IsTied n j stores.now → IsTurn n j (means session.now).standing IdleTurn }
+{
+    if session.bodies() {
+        return false;
+    }
+    let position = session.pos();
+    if !stores.log.cut_at().le(position) {
+        return false;
+    }
+    stores.log.vector().le(position)
+}
+
 // Which kind of turn the event is.
 pub fn kind_of(event: &Event) -> Turned
     requires { (stream : ℕ) × IsTurnOf stream event.now }
@@ -159,6 +183,15 @@ pub fn note(session: &mut Session, event: &Event, time: u64)
     }
 }
 
+// The session notes a turn that sent nothing.
+pub fn note_idle(session: &mut Session, time: u64)
+    requires later { (means session.old).standing.time < time }
+    requires most { time ≤ 4611686018427387903 }
+    ensures { (caller stream : ℕ) → HasGoneOn (means session.old) (means session.new) (means session.old).attached (record { time = time; caller = caller; event = Idle stream }) }
+{
+    session.heard(time);
+}
+
 // The session notes a message that was sent.
 pub fn note_sent(session: &mut Session, kind: &Kind, time: u64)
     requires attached { IsTrue (means session.old).attached }
@@ -170,8 +203,8 @@ pub fn note_sent(session: &mut Session, kind: &Kind, time: u64)
     let _ = session.pos();
     match kind {
         Kind::Body { name, stamp, .. } => session.sent_body(name, stamp, time),
-        Kind::Precise { to, .. } => session.sent(&to.get(), time),
-        Kind::Imprecise { to, .. } => session.sent(&to.get(), time),
-        Kind::Checkpoint { to, .. } => session.sent(&to.get(), time),
+        Kind::Precise { to, .. } | Kind::Imprecise { to, .. } | Kind::Checkpoint { to, .. } => {
+            session.sent(&to.get(), time);
+        }
     }
 }

@@ -1,15 +1,18 @@
 use Rattle.std.proofs.Common.{arith, subst, sym, set, ◌<◌, ◌≤◌, ◌+◌, ◌∙◌, ℕ}
 use Rattle.std.specs.Prelude.{option_copied}
 use Rattle.pr_log.specs.Waiting.{AreListed, head_of}
-use Rattle.pr_log.proofs.Merge.{IsHead, first_head, follows, least_node, left, next_is, none_is, set_listed, start_left, turn_heads, turn_left}
+use Rattle.pr_log.proofs.Merge.{IsHead, first_head, follows, least_node, left, next_is, no_heads, none_is, set_listed, start_left, turn_heads, turn_left}
 use Rattle.pr_log.proofs.waiting.next_write.Given.{Over}
 use Rattle.pr_log.proofs.waiting.next_write.Goals as goal
 
+pub find_heads-requires-clause-none : goal.find_heads-requires-clause-none
+find_heads-requires-clause-none g c k = no_heads k
+
 pub loop-write-init : goal.loop-write-init
 loop-write-init g c = record {
-  listed = c.heads.ensures.listed;
-  each = λ n lt. first_head c.args.index.now c.args.pos.now c.args.sub.now n (head_of c.heads.result.0 n) (c.heads.ensures.each n lt);
-  few = omega (arith, start_left c.args.index.now c.args.pos.now c.heads.result.0 c.heads.ensures.each, c.heads.ensures.steps);
+  listed = c.find_heads.ensures.listed;
+  each = λ n lt. first_head c.args.index.now c.args.pos.now c.args.sub.now n (head_of c.find_heads.new.heads n) (c.find_heads.ensures.each n lt);
+  few = omega (arith, start_left c.args.index.now c.args.pos.now c.find_heads.new.heads c.find_heads.ensures.each, c.find_heads.ensures.steps);
 }
 
 pub returns-then-has-clause-next : goal.returns-then-has-clause-next

@@ -17,8 +17,8 @@ pub returns-in-Some-clause-ok : goal.returns-in-Some-clause-ok
 returns-in-Some-clause-ok c sessions needs =
     let tied = c.self.invariant.1 c.in_ok-time.ensures.worked in
     rw (← c.self.view_is) (adds _ _ _ _ _ _ _ _ _ sessions needs _ _ _ c.in_ok-time.ensures.items c.in_ok-gapped.ensures.items refl c.in_ok-gapped.ensures.spent
-    (gapped_ready sessions needs _ _ _ _ _ _ _ c.in-Some.needs c.msg_in_range.ensures c.vector-has.ensures.range (c.vector-has.ensures.value ∙ tied.log.vector) c.in-Some.ensures)
-    c.ranges.caller.fits refl refl c.in_ok-time.ensures.time (refl, c.in-Some.ensures.0, refl))
+    (gapped_ready sessions needs _ _ _ _ _ _ _ c.in-Some.needs.now c.msg_in_range.ensures c.vector-has.ensures.range (c.vector-has.ensures.value ∙ tied.log.vector) c.in-Some.ensures)
+    c.ranges.caller.fits refl refl c.in_ok-time.ensures.time (refl, c.get-needs.ensures.value ∙ c.in-Some.ensures.0, refl))
 
 pub invariant_of-self-2 : goal.invariant_of-self-2
 invariant_of-self-2 c =

@@ -1,15 +1,46 @@
-use Rattle.std.proofs.Common.{ap, refl, sym, subst, ◌∙◌, List, reverse}
+use Rattle.std.proofs.Common.{ap, refl, sym, subst, ◌∙◌, ℕ, List, reverse, rules}
+use Rattle.std.specs.Prelude.{Bool}
 use Rattle.pr_inval.specs.Standing.{means, SessionMeaning}
 use Rattle.pr_stamps.specs.Kept.{Kept}
+use Rattle.pr_story.specs.Sessions.{HasGoneOn}
 use Rattle.pr_story.specs.declared.entry.Entry.{Entry}
 use Rattle.pr_node.specs.Scanning.{IsScanOf}
 use Rattle.pr_node.specs.Grammar.{IsSendSpelled}
 use Rattle.pr_node.specs.Sending.{IsNextTurn, IsTurnOf}
+use Rattle.pr_node.specs.Stored.{Stored}
 use Rattle.pr_node.proofs.Adding.{stands, adds}
 use Rattle.pr_node.proofs.Quiet.{quiet_tied}
 use Rattle.pr_node.proofs.Scanning.{scan_turned}
 use Rattle.pr_node.proofs.Stepping.{has_gone_on, tied_so, turn_heard, turn_told, turn_of, turn_quiet, turn_ready}
+use Rattle.pr_story.specs.declared.event.Event.{Event}
+use Rattle.pr_story.specs.declared.event.Event.TheVariants.{Idle}
 use Rattle.pr_node.proofs.node.Node.note_turn.Goals as goal
+
+pub invariant_of-self-then-is_idle : goal.invariant_of-self-then-is_idle
+invariant_of-self-then-is_idle c =
+    stands c.self.inside.id _ _ _ _ _ _ c.self.invariant.0 c.in_ok-time.ensures.items c.finish.ensures.items
+    (quiet_tied c.self.inside.id _ _ _ tt (c.self.invariant.1 c.in_ok-time.ensures.worked))
+
+pub returns-then-is_idle-clause-ok : goal.returns-then-is_idle-clause-ok
+returns-then-is_idle-clause-ok c needs =
+    let n = c.self.inside.id in
+    let a : SessionMeaning = means c.args.session.now in
+    let j : List Entry = reverse c.self.inside.diary.entries.items in
+    let event : Event = Idle c.stream-stream.result in
+    let next : IsNextTurn n j a c.in_ok-time.time event = (c.stream-stream.ensures, c.is_idle.ensures c.if-is_idle.true n j (c.self.invariant.1 c.in_ok-time.ensures.worked)) in
+    rw (← c.self.view_is) (adds _ _ _ _ _ _ _ _ _ (λ x. a.standing) needs _ c.time.result _ c.in_ok-time.ensures.items c.finish.ensures.items refl c.finish.ensures.spent
+    (turn_ready needs n _ _ a _ _ event (search rules) next)
+    c.ranges.caller.fits refl c.time.ensures.value c.in_ok-time.ensures.time (
+      ap (λ (k : ℕ). Idle k) c.stream-stream.ensures,
+      subst (λ (x : Bool). HasGoneOn a (means c.note_idle.new.session) x (record { time = c.in_ok-time.time; caller = c.args.caller; event = event })) c.requires.attached (c.note_idle.ensures c.args.caller c.stream-stream.result),
+    ))
+
+pub returns-then-is_idle-clause-scan : goal.returns-then-is_idle-clause-scan
+returns-then-is_idle-clause-scan c =
+    scan_turned c.args.scan.now (means c.args.session.now) (means c.note_idle.new.session) _ _ c.begin.new.self.entries.items _ (c.note_idle.ensures c.args.caller c.stream-stream.result)
+    c.stream-stream.ensures c.finish.ensures.items
+    (subst (λ (es : List Entry). IsScanOf c.args.scan.now (means c.args.session.now).standing (reverse es)) (sym c.in_ok-time.ensures.items)
+    (subst (λ (s : Stored). IsScanOf c.args.scan.now (means c.args.session.now).standing (reverse s.journal.items)) (sym c.self.view_is) c.requires.scan))
 
 pub kind_of-turned-requires : goal.kind_of-turned-requires
 kind_of-turned-requires c =
@@ -25,7 +56,7 @@ invariant_of-self-2 c =
     let a : SessionMeaning = means c.args.session.now in
     let event = c.in_ok-event.event in
     let next = tied_so n _ _ c.self.inside.stores (λ j. IsNextTurn n j a c.in_ok-time.time c.in_ok-event.event) (c.entries-entries.ensures ∙ ap (λ (x : Kept Entry). x.items) c.journal.ensures ∙ c.in_ok-time.ensures.items) (c.in_ok-event.ensures.next n) (c.self.invariant.1 c.in_ok-time.ensures.worked) in
-    stands n _ _ _ _ _ _ c.self.invariant.0 c.in_ok-time.ensures.items c.finish.ensures.items
+    stands n _ _ _ _ _ _ c.self.invariant.0 c.in_ok-time.ensures.items c.finish-2.ensures.items
     (quiet_tied n _ _ _ (turn_quiet n _ a c.in_ok-time.time event next) (c.self.invariant.1 c.in_ok-time.ensures.worked))
 
 pub returns-clause-ok : goal.returns-clause-ok
@@ -34,7 +65,7 @@ returns-clause-ok c needs =
     let a : SessionMeaning = means c.args.session.now in
     let event = c.in_ok-event.event in
     let next = tied_so n _ _ c.self.inside.stores (λ j. IsNextTurn n j a c.in_ok-time.time c.in_ok-event.event) (c.entries-entries.ensures ∙ ap (λ (x : Kept Entry). x.items) c.journal.ensures ∙ c.in_ok-time.ensures.items) (c.in_ok-event.ensures.next n) (c.self.invariant.1 c.in_ok-time.ensures.worked) in
-    rw (← c.self.view_is) (adds _ _ _ _ _ _ _ _ _ (λ x. a.standing) needs _ c.time.result _ c.in_ok-time.ensures.items c.finish.ensures.items refl c.finish.ensures.spent
+    rw (← c.self.view_is) (adds _ _ _ _ _ _ _ _ _ (λ x. a.standing) needs _ c.time.result _ c.in_ok-time.ensures.items c.finish-2.ensures.items refl c.finish-2.ensures.spent
     (turn_ready needs n _ _ a _ _ event c.in_ok-event.ensures.range next)
     c.ranges.caller.fits refl (c.time.ensures.value ∙ turn_heard n _ a c.in_ok-time.time event next) c.in_ok-time.ensures.time (
       turn_told n _ a _ _ c.kind_of-turned.result event c.kind_of-turned.ensures next
@@ -54,6 +85,6 @@ returns-clause-scan c =
     let event = c.in_ok-event.event in
     let next = tied_so n _ _ c.self.inside.stores (λ j. IsNextTurn n j a c.in_ok-time.time c.in_ok-event.event) (c.entries-entries.ensures ∙ ap (λ (x : Kept Entry). x.items) c.journal.ensures ∙ c.in_ok-time.ensures.items) (c.in_ok-event.ensures.next n) (c.self.invariant.1 c.in_ok-time.ensures.worked) in
     scan_turned c.next_turn.new.scan (means c.next_turn.new.session) (means c.note.new.session) _ _ c.begin.new.self.entries.items _ (c.note.ensures c.args.caller)
-    (subst (λ k. IsTurnOf k c.in_ok-event.event) (sym c.in_ok-event.ensures.same.stream) (turn_of n _ a c.in_ok-time.time event next)) c.finish.ensures.items
+    (subst (λ k. IsTurnOf k c.in_ok-event.event) (sym c.in_ok-event.ensures.same.stream) (turn_of n _ a c.in_ok-time.time event next)) c.finish-2.ensures.items
     (subst (λ (es : List Entry). IsScanOf c.next_turn.new.scan (means c.next_turn.new.session).standing (reverse es)) (sym c.in_ok-time.ensures.items)
     (tied_so c.self.inside.id _ _ c.self.inside.stores (λ j. IsScanOf c.next_turn.new.scan (means c.next_turn.new.session).standing j) (c.entries-entries.ensures ∙ ap (λ (x : Kept Entry). x.items) c.journal.ensures ∙ c.in_ok-time.ensures.items) (c.next_turn.ensures.scan c.self.inside.id) (c.self.invariant.1 c.in_ok-time.ensures.worked)))

@@ -18,7 +18,7 @@ pub returns-then-not-le-clause-ok : goal.returns-then-not-le-clause-ok
 returns-then-not-le-clause-ok c sessions =
     let tied = c.self.invariant.1 c.in_ok-time.ensures.worked in
     rw (← c.self.view_is) (adds _ _ _ _ _ _ _ _ _ sessions (λ x. c.args.needs.now) _ _ _ c.in_ok-time.ensures.items c.in_ok-behind.ensures.items refl c.in_ok-behind.ensures.spent
-    (behind_ready sessions _ _ _ _ _ _ _ _ c.ranges.client.fits c.at.ensures.range c.vector.ensures.range (c.vector.ensures.value ∙ tied.log.vector) (search rules))
+    (behind_ready sessions _ _ _ _ _ _ _ _ c.ranges.client.fits c.at.ensures.range c.vector-vector.ensures.range (c.vector-vector.ensures.value ∙ tied.log.vector) (search rules))
     c.ranges.caller.fits refl refl c.in_ok-time.ensures.time (c.args.needs.now, refl))
 
 pub keep_write-requires-clause-above : goal.keep_write-requires-clause-above
@@ -31,16 +31,16 @@ invariant_of-self-2 c =
     let j : List Entry = reverse c.self.inside.diary.entries.items in
     let tied = c.self.invariant.1 c.in_ok-time.ensures.worked in
     let own : IsNextOwn c.self.inside.id j c.args.name.now c.args.gone c.in-Some.write = c.in-Some.ensures.some j tied in
-    stands c.self.inside.id _ _ _ _ _ _ c.self.invariant.0 c.in_ok-time.ensures.items c.in_ok-wrote.ensures.items
-    (subst (λ (n : ℕ). IsTied n ((record { time = c.in_ok-time.time; caller = c.args.caller; event = Wrote c.args.client c.in-Some.write c.in_ok-body.body c.vector.result.now }) ∷ j) c.keep_write.new.stores) own.node
-    (subst (λ (b : List ℕ). IsTied c.in-Some.write.stamp.node (record { time = c.in_ok-time.time; caller = c.args.caller; event = Wrote c.args.client c.in-Some.write b c.vector.result.now } ∷ j) c.keep_write.new.stores) c.as_slice.ensures
-    (c.in_ok-keep_write.ensures.tied j c.in_ok-time.time c.args.caller c.args.client c.vector.result.now (subst (λ (n : ℕ). IsTied n j c.self.inside.stores) (sym own.node) tied))))
+    stands c.self.inside.id _ _ _ _ _ _ c.self.invariant.0 c.in_ok-time.ensures.items c.wrote.ensures.items
+    (subst (λ (n : ℕ). IsTied n ((record { time = c.in_ok-time.time; caller = c.args.caller; event = Wrote c.args.client c.in-Some.write c.in_ok-body.body c.in_ok-after.after }) ∷ j) c.keep_write.new.stores) own.node
+    (subst (λ (b : List ℕ). IsTied c.in-Some.write.stamp.node (record { time = c.in_ok-time.time; caller = c.args.caller; event = Wrote c.args.client c.in-Some.write b c.in_ok-after.after } ∷ j) c.keep_write.new.stores) c.as_slice.ensures
+    (c.in_ok-keep_write.ensures.tied j c.in_ok-time.time c.args.caller c.args.client c.in_ok-after.after (subst (λ (n : ℕ). IsTied n j c.self.inside.stores) (sym own.node) tied))))
 
 pub returns-clause-ok : goal.returns-clause-ok
 returns-clause-ok c sessions =
     let j : List Entry = reverse c.self.inside.diary.entries.items in
     let tied = c.self.invariant.1 c.in_ok-time.ensures.worked in
     let own : IsNextOwn c.self.inside.id j c.args.name.now c.args.gone c.in-Some.write = c.in-Some.ensures.some j tied in
-    rw (← c.self.view_is) (adds _ _ _ _ _ _ _ _ _ sessions (λ x. c.args.needs.now) _ _ _ c.in_ok-time.ensures.items c.in_ok-wrote.ensures.items c.in_ok-keep_write.ensures.sets c.in_ok-wrote.ensures.spent
-    (write_ready sessions _ _ _ _ _ _ _ _ _ _ _ _ _ own c.ranges.client.fits c.bytes_in_range.ensures c.requires.short c.requires.gone c.in_ok-body.ensures c.vector.ensures.range (c.vector.ensures.value ∙ tied.log.vector) (search rules))
-    c.ranges.caller.fits refl refl c.in_ok-time.ensures.time (c.in-Some.write, c.vector.result.now, ap (λ (b : List ℕ). Wrote c.args.client c.in-Some.write b c.vector.result.now) c.in_ok-body.ensures, own.is_name, refl, own.is_gone))
+    rw (← c.self.view_is) (adds _ _ _ _ _ _ _ _ _ sessions (λ x. c.args.needs.now) _ _ _ c.in_ok-time.ensures.items c.wrote.ensures.items c.in_ok-keep_write.ensures.sets c.wrote.ensures.spent
+    (write_ready sessions _ _ _ _ _ _ _ _ _ _ _ _ _ own c.ranges.client.fits c.bytes_in_range.ensures c.requires.short c.requires.gone c.in_ok-body.ensures (rw c.in_ok-after.ensures c.vector.ensures.range) (c.in_ok-after.ensures ∙ c.vector.ensures.value ∙ tied.log.vector) (search rules))
+    c.ranges.caller.fits refl refl c.in_ok-time.ensures.time (c.in-Some.write, c.in_ok-after.after, ap (λ (b : List ℕ). Wrote c.args.client c.in-Some.write b c.in_ok-after.after) c.in_ok-body.ensures, own.is_name, refl, own.is_gone))

@@ -1,19 +1,19 @@
-use Rattle.std.proofs.Common.{arith, refl, subst}
+use Rattle.std.proofs.Common.{arith, subst}
 use Rattle.std.specs.Prelude.{option_copied}
 use Rattle.pr_log.specs.Known.{IsFirstAbove}
-use Rattle.pr_log.proofs.Merge.{behind_more, more_heads, no_heads, rest_heads, rest_listed}
-use Rattle.pr_log.proofs.waiting.heads.Goals as goal
+use Rattle.pr_log.proofs.Merge.{behind_more, more_heads, rest_heads, rest_listed}
+use Rattle.pr_log.proofs.waiting.find_heads.Goals as goal
 
 pub loop-n-init : goal.loop-n-init
 loop-n-init g c = record {
   listed = record {
-    len = refl;
-    few = omega arith;
-    known = λ k lt. absurd (omega (arith, lt));
+    len = c.told-heads;
+    few = omega (arith, c.requires.empty);
+    known = λ k lt. absurd (omega (arith, lt, c.requires.empty));
     all = λ m w lt is. absurd (omega (arith, lt));
   };
   each = λ k lt. absurd (omega (arith, lt));
-  behind = λ k le. no_heads k;
+  behind = λ k le. c.requires.none k;
   steps = omega arith;
 }
 

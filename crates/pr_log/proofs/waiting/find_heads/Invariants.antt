@@ -2,7 +2,7 @@ use Rattle.std.proofs.Common.{◌≡◌, ℕ, ◌≤◌, ◌<◌, ◌+◌, None}
 use Rattle.pr_vectors.specs.Vector.{clock_of}
 use Rattle.pr_log.specs.Known.{IsFirstAbove}
 use Rattle.pr_log.specs.Waiting.{AreListed, head_of}
-use Rattle.pr_log.proofs.waiting.heads.Given as goal
+use Rattle.pr_log.proofs.waiting.find_heads.Given as goal
 
 abbrev pub invariant-loop-n : goal.invariant-loop-n
 invariant-loop-n g l = record {
