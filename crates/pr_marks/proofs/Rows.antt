@@ -1,5 +1,5 @@
 -- What the map of rows has at a name.
-use Rattle.std.proofs.Common.{◌≡◌, ℕ, List, [], ◌∷◌, Option, None, Some, Bool, true, false, cond, refl, sym, ◌∙◌, ap, subst, filter, find, not, ◌&&◌, get_or, arith}
+use Rattle.std.proofs.Common.{◌≡◌, ℕ, List, [], ◌∷◌, Option, None, Some, Bool, true, false, cond, refl, sym, ◌∙◌, ap, filter, find, not, ◌&&◌, get_or, arith}
 use Rattle.std.specs.Prelude.{AllPairs, IsTrue}
 use Rattle.std.specs.List.Sorted.{IsStrictlySortedBy}
 use Rattle.std.specs.declared.cmp.Ordering.TheVariants.{Less}
@@ -7,9 +7,7 @@ use Rattle.std.proofs.lemmas.List.Kept.{AllPairs-cons}
 use Rattle.std.proofs.lemmas.List.Elements.{All-from_recursion}
 use Rattle.std.specs.Map.{lookup, keys_of}
 use Rattle.std.specs.List.{slice_get}
-use Rattle.std.specs.Option.{option_map, unwrap_or}
-use Rattle.pr_stamps.specs.Point.{is_before}
-use Rattle.pr_stamps.specs.Marks.{later}
+use Rattle.std.specs.Option.{option_map}
 use Rattle.std.specs.Ordering.{is_eq, is_lt, nat_cmp}
 use Rattle.std.specs.Cmp.Lexicographic.{slice_cmp}
 use Rattle.std.specs.Str.{bytes_eq}
@@ -38,25 +36,6 @@ row_at o es = same_lookup _ _ (λ k. sym (is_eq-slice_cmp o k)) es
 pub written : {X : Type 0} (name : List ℕ) (before after : List (List ℕ × X)) (row : X) → ((q : List ℕ) → at_name after q ≡ cond (is_eq (slice_cmp nat_cmp name q)) (Some row) (at_name before q)) → (o : List ℕ) → lookup (bytes_eq o) after ≡ cond (bytes_eq name o) (Some row) (lookup (bytes_eq o) before)
 written name before after row is o =
     row_at o after ∙ is o ∙ ap (λ b. cond b (Some row) (at_name before o)) (is_eq-slice_cmp name o) ∙ ap (λ r. cond (bytes_eq name o) (Some row) r) (sym (row_at o before))
-
--- what stands at a name, or else a fresh row with this stamp, and what it is once raised
-pub raised_row : (found old : Option Kept) (fresh row : Kept) (newest to : Newest) → found ≡ old → fresh ≡ record { newest = to; marks = [] } → row ≡ unwrap_or found fresh → newest ≡ later row.newest to → newest ≡ raised_to (option_map (λ (k : Kept). k.newest) old) to
-raised_row found old fresh row newest to same new at is = subst (λ r. newest ≡ raised_to (option_map (λ (k : Kept). k.newest) r) to) same (by found at)
-  where
-    itself : (b : Bool) → cond b to to ≡ to
-    itself true = refl
-    itself false = refl
-
-    by : (r : Option Kept) → row ≡ unwrap_or r fresh → newest ≡ raised_to (option_map (λ (k : Kept). k.newest) r) to
-    by None at = is ∙ ap (λ (k : Kept). later k.newest to) (at ∙ new) ∙ itself (is_before to.stamp to.stamp)
-    by (Some k) at = is ∙ ap (λ (r : Kept). later r.newest to) at
-
-pub row_marks : (found old : Option Kept) (fresh row : Kept) (to : Newest) → found ≡ old → fresh ≡ record { newest = to; marks = [] } → row ≡ unwrap_or found fresh → row.marks ≡ marks_in old
-row_marks found old fresh row to same new at = by found at ∙ ap marks_in same
-  where
-    by : (r : Option Kept) → row ≡ unwrap_or r fresh → row.marks ≡ marks_in r
-    by None at = ap (λ (k : Kept). k.marks) (at ∙ new)
-    by (Some k) at = ap (λ (r : Kept). r.marks) at
 
 pub newest_cond : (b : Bool) (row : Kept) (r : Option Kept) → option_map (λ (k : Kept). k.newest) (cond b (Some row) r) ≡ cond b (Some row.newest) (option_map (λ (k : Kept). k.newest) r)
 newest_cond true row r = refl

@@ -1,7 +1,7 @@
 // The table of marks.
 ghost use Rattle.pr_marks.specs.Pairs.{pairs_of};
 ghost use Rattle.pr_marks.specs.Row.{Rises};
-ghost use Rattle.pr_marks.specs.Table.{IsForgotten, IsMarked, IsRaised, is_after, marks_of, names_of, newest_of};
+ghost use Rattle.pr_marks.specs.Table.{IsForgotten, IsMarked, IsRaised, is_after, marks_of, names_of, newest_of, row_of};
 ghost use Rattle.pr_names.specs.Order.{NamesRise};
 ghost use Rattle.pr_vectors.specs.Vector.{IsVector, zero_vector};
 ghost use Rattle.std.specs.Prelude.{◌≡◌, [], true, false, None, Some, IfOk, IsErr, OnErr, OnOk, find};
@@ -66,14 +66,38 @@ impl Marks {
             return Err(NoMemory);
         }
         self.spent = true;
-        let newest = newest_of(mark, gone);
-        let row = self
-            .rows
-            .entry(*name)?
-            .or_insert(Row::new(self.alloc, &newest));
-        row.raise(&newest);
-        marked::note(row, &mut self.marked, &self.floor, name, mark)?;
+        if !self.add_known(name, mark, gone)? {
+            self.add_new(name, mark, gone)?;
+        }
         self.spent = false;
+        Ok(())
+    }
+
+    // Knows of a write of the name, if the name is known; tells whether it is.
+    fn add_known(&mut self, name: &Name, mark: &Mark, gone: bool) -> Result<bool, NoMemory>
+        ensures known { IfOk result (λ known. known ≡ true → IsMarked self.old self.new name.now mark.now gone) }
+        ensures unknown { IfOk result (λ known. known ≡ false → (self.new ≡ self.old) × (row_of self.old name.now ≡ None)) }
+        ensures spent { self.new.spent ≡ self.old.spent }
+    {
+        match self.rows.get_mut(name) {
+            Some(row) => {
+                row.raise(&newest_of(mark, gone));
+                marked::note(row, &mut self.marked, &self.floor, name, mark)?;
+                Ok(true)
+            }
+            None => Ok(false),
+        }
+    }
+
+    // Knows of a write of a name that is not known.
+    fn add_new(&mut self, name: &Name, mark: &Mark, gone: bool) -> Result<(), NoMemory>
+        requires { row_of self.old name.now ≡ None }
+        ensures ok { OnOk result (IsMarked self.old self.new name.now mark.now gone) }
+        ensures spent { self.new.spent ≡ self.old.spent }
+    {
+        let mut row = Row::new(self.alloc, &newest_of(mark, gone));
+        marked::note(&mut row, &mut self.marked, &self.floor, name, mark)?;
+        self.rows.insert(*name, row)?;
         Ok(())
     }
 
@@ -88,12 +112,35 @@ impl Marks {
             return Err(NoMemory);
         }
         self.spent = true;
-        let row = self
-            .rows
-            .entry(*name)?
-            .or_insert(Row::new(self.alloc, newest));
-        row.raise(newest);
+        if !self.raise_known(name, newest) {
+            self.raise_new(name, newest)?;
+        }
         self.spent = false;
+        Ok(())
+    }
+
+    // Knows of a stamp of the name, if the name is known; tells whether it is.
+    fn raise_known(&mut self, name: &Name, newest: &Newest) -> bool
+        ensures known { result ≡ true → IsRaised self.old self.new name.now newest.now }
+        ensures unknown { result ≡ false → (self.new ≡ self.old) × (row_of self.old name.now ≡ None) }
+        ensures spent { self.new.spent ≡ self.old.spent }
+    {
+        match self.rows.get_mut(name) {
+            Some(row) => {
+                row.raise(newest);
+                true
+            }
+            None => false,
+        }
+    }
+
+    // Knows of a stamp of a name that is not known.
+    fn raise_new(&mut self, name: &Name, newest: &Newest) -> Result<(), NoMemory>
+        requires { row_of self.old name.now ≡ None }
+        ensures ok { OnOk result (IsRaised self.old self.new name.now newest.now) }
+        ensures spent { self.new.spent ≡ self.old.spent }
+    {
+        self.rows.insert(*name, Row::new(self.alloc, newest))?;
         Ok(())
     }
 
