@@ -29,9 +29,9 @@ pub enum Carried {
     Lied { sent: Bytes, got: Bytes },
 }
 
-/// Encodes a message, puts it into a wire that holds nothing, in pieces of 4,096 bytes or of what is left, takes each again
-/// before the next, and decodes the message once all came, in time linear in its frame. It takes memory for what is decoded,
-/// for the frame where that has 512 bytes or more, and for the encoding where other bytes are taken.
+/// Encodes a message, puts it into a wire that holds nothing, in pieces of 4,096 bytes or of what is left, takes each
+/// again before the next, and decodes the message once all came, in time linear in its frame. It takes memory for what
+/// is decoded, for the frame where that has 512 bytes or more, and for the encoding where other bytes are taken.
 pub fn carry<W: Wire>(alloc: Global, msg: &Msg, wire: &mut W) -> Result<Carried, NoMemory>
     requires message { IsMessage msg.now }
     requires under { (W.state wire.old).under ≡ 0 }
@@ -39,21 +39,57 @@ pub fn carry<W: Wire>(alloc: Global, msg: &Msg, wire: &mut W) -> Result<Carried,
     ensures sound { IsTrue (W.state wire.old).sound → IsNoLieOrCut result }
 {
     let mut pieces = Pieces::new(msg);
-    let mut frame = [0; SHORT];
-    let len = pieces.next(&mut frame);
-    if len == SHORT {
-        return carry_long(alloc, msg, &frame, &mut pieces, wire);
+    match pieces.whole() {
+        Some(frame) if frame.len() < SHORT => carry_short(alloc, msg, frame, wire),
+        _ => carry_pieces(alloc, msg, &mut pieces, wire),
     }
+}
+
+// Carries a message by its frame, from where that stands.
+fn carry_short<W: Wire>(
+    alloc: Global,
+    msg: &Msg,
+    frame: &[u8],
+    wire: &mut W,
+) -> Result<Carried, NoMemory>
+    requires frame { IsFrame Format.Two msg.now frame.now }
+    requires short { length frame.now < 512 }
+    requires under { (W.state wire.old).under ≡ 0 }
+    ensures moved { IsCarried (W.state wire.old) (W.state wire.new) msg.now result }
+    ensures sound { IsTrue (W.state wire.old).sound → IsNoLieOrCut result }
+{
+    let len = frame.len();
     let mut bytes = [0; SHORT];
-    match pass(wire, &frame[..len], &mut bytes[..len]) {
+    match pass(wire, frame, &mut bytes[..len]) {
         Passed::Whole => Ok(Carried::Whole(decode(alloc, &bytes[..len])?)),
         Passed::Cut(cause) => Ok(Carried::Cut(cause)),
         Passed::Lied { len } => lied(alloc, msg, 0, &bytes[..len]),
     }
 }
 
-// Carries a message whose frame begins with these bytes, and goes on with what the pieces have left. The room for a whole
-// piece is cleared here alone.
+// Carries a message by the pieces of its frame. The room for a short frame is cleared here alone.
+#[inline(never)]
+fn carry_pieces<W: Wire>(
+    alloc: Global,
+    msg: &Msg,
+    pieces: &mut Pieces,
+    wire: &mut W,
+) -> Result<Carried, NoMemory>
+    requires frame { IsFrame Format.Two msg.now (rest_of pieces.old) }
+    requires under { (W.state wire.old).under ≡ 0 }
+    ensures moved { IsCarried (W.state wire.old) (W.state wire.new) msg.now result }
+    ensures sound { IsTrue (W.state wire.old).sound → IsNoLieOrCut result }
+{
+    let mut frame = [0; SHORT];
+    let len = pieces.next(&mut frame);
+    if len == SHORT {
+        return carry_long(alloc, msg, &frame, pieces, wire);
+    }
+    carry_short(alloc, msg, &frame[..len], wire)
+}
+
+// Carries a message whose frame begins with these bytes, and goes on with what the pieces have left. The room for a
+// whole piece is cleared here alone.
 #[inline(never)]
 fn carry_long<W: Wire>(
     alloc: Global,

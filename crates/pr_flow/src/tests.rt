@@ -432,6 +432,23 @@ const CALLS: [(usize, [i64; 8]); 5] = [
     (9000, [4096, -4096, 4096, -4096, 808, -808, 0, 0]),
 ];
 
+// The frame of a checkpoint of no rows.
+const CHECKPOINT: [u8; 48] = [
+    2, 0, 0, 0, 0, 0, 0, 0, 39, 3, 0, 0, 0, 0, 0, 0, 0, 2, 0, 0, 0, 0, 0, 0, 0, 0, 0, 0, 0, 1, 0,
+    0, 0, 0, 0, 0, 0, 0, 0, 0, 0, 0, 0, 0, 0, 0, 0, 0,
+];
+
+// Whether the calls for the checkpoint are those for one piece.
+fn checkpoint_has_calls(alloc: Global) -> Option<bool> {
+    let msg = message(alloc, &CHECKPOINT).ok()?;
+    Some(calls_for(alloc, &msg) == Some([48, -48, 0, 0, 0, 0, 0, 0]))
+}
+
+#[test]
+fn a_short_list_goes_in_one_piece(rt: HostRuntime) {
+    assert!(rt; checkpoint_has_calls(rt.alloc()).unwrap_or(false));
+}
+
 // Whether these are the calls for a frame of so many bytes.
 fn has_calls(alloc: Global, len: usize, calls: &[i64; 8]) -> Option<bool> {
     let msg = body_message(alloc, len).ok()?;

@@ -18,10 +18,6 @@ rising v w n lt rise = let k : 32 - n ≡ suc (32 - (n + 1)) = omega arith in rw
 staying : (v w : List ℕ) (n : ℕ) → n < 32 → clock_of w n ≤ clock_of v n → above v w n (32 - n) ≡ above v w (n + 1) (32 - (n + 1))
 staying v w n lt le = let k : 32 - n ≡ suc (32 - (n + 1)) = omega arith in rw k (above_same v w n (32 - (n + 1)) le)
 
-ended : (v w : List ℕ) (n : ℕ) → 32 ≤ n → above v w n (32 - n) ≡ []
-unfolding above
-ended v w n le = let k : 32 - n ≡ 0 = omega arith in rw k refl
-
 pub count_rises : (v w : List ℕ) (n count all : ℕ) → n < 32 → clock_of v n < clock_of w n → count + length (above v w n (32 - n)) ≡ all → (count + 1) + length (above v w (n + 1) (32 - (n + 1))) ≡ all
 count_rises v w n count all lt rise so_far = omega (arith, ap length (rising v w n lt rise))
 
@@ -39,12 +35,12 @@ none_above v w n (suc k) is none =
 pub count_ends : (v w : List ℕ) (n count all : ℕ) → n ≤ 32 → ((m : ℕ) → n ≤ m → m < 32 → clock_of w m ≡ 0) → count + length (above v w n (32 - n)) ≡ all → count ≡ all
 count_ends v w n count all le none so_far = omega (arith, so_far, ap length (none_above v w n (32 - n) (omega (arith, le)) none))
 
-pub entry_rises : (v w : List ℕ) (n : ℕ) (old node new all : List ℕ) → n < 32 → clock_of v n < clock_of w n → node ≡ old ++ n ∷ [] → new ≡ node ++ eight (clock_of w n)
+pub entry_rises : (v w : List ℕ) (n : ℕ) (old new all : List ℕ) → n < 32 → clock_of v n < clock_of w n → new ≡ old ++ n ∷ eight (clock_of w n)
     → old ++ flat_map entry_text (above v w n (32 - n)) ≡ all → new ++ flat_map entry_text (above v w (n + 1) (32 - (n + 1))) ≡ all
 unfolding entry_text
-entry_rises v w n old node new all lt rise is_node is_new so_far =
+entry_rises v w n old new all lt rise is_new so_far =
     let later = flat_map entry_text (above v w (n + 1) (32 - (n + 1))) in
-    ap (λ (t : List ℕ). t ++ later) (is_new ∙ ap (λ (t : List ℕ). t ++ eight (clock_of w n)) is_node ∙ append_assoc old (n ∷ []) (eight (clock_of w n)))
+    ap (λ (t : List ℕ). t ++ later) is_new
     ∙ append_assoc old (n ∷ eight (clock_of w n)) later
     ∙ ap (λ (ps : List Point). old ++ flat_map entry_text ps) (sym (rising v w n lt rise))
     ∙ so_far
@@ -53,21 +49,8 @@ pub entry_stays : (v w : List ℕ) (n : ℕ) (old all : List ℕ) → n < 32 →
     → old ++ flat_map entry_text (above v w n (32 - n)) ≡ all → old ++ flat_map entry_text (above v w (n + 1) (32 - (n + 1))) ≡ all
 entry_stays v w n old all lt le so_far = ap (λ (ps : List Point). old ++ flat_map entry_text ps) (sym (staying v w n lt le)) ∙ so_far
 
-pub entries_end : (v w : List ℕ) (n : ℕ) (old all : List ℕ) → 32 ≤ n → old ++ flat_map entry_text (above v w n (32 - n)) ≡ all → old ≡ all
-entries_end v w n old all le so_far = sym (append-nil old) ∙ ap (λ (ps : List Point). old ++ flat_map entry_text ps) (sym (ended v w n le)) ∙ so_far
-
-pub one_less : (v w : List ℕ) (n left : ℕ) → n < 32 → clock_of v n < clock_of w n → left ≡ length (above v w n (32 - n)) → left - 1 ≡ length (above v w (n + 1) (32 - (n + 1)))
-one_less v w n left lt rise is = omega (arith, is, ap length (rising v w n lt rise))
-
-pub none_less : (v w : List ℕ) (n left : ℕ) → n < 32 → clock_of w n ≤ clock_of v n → left ≡ length (above v w n (32 - n)) → left ≡ length (above v w (n + 1) (32 - (n + 1)))
-none_less v w n left lt le is = is ∙ ap length (staying v w n lt le)
-
--- none is left
-pub entries_done : (v w : List ℕ) (n left : ℕ) (old all : List ℕ) → left ≡ 0 → left ≡ length (above v w n (32 - n))
-    → old ++ flat_map entry_text (above v w n (32 - n)) ≡ all → old ≡ all
-entries_done v w n left old all none is so_far =
-    let nothing : above v w n (32 - n) ≡ [] = nil_from_length (above v w n (32 - n)) (sym is ∙ none) in
-    sym (append-nil old) ∙ ap (λ (ps : List Point). old ++ flat_map entry_text ps) (sym nothing) ∙ so_far
+pub entries_end : (v w : List ℕ) (n : ℕ) (old all : List ℕ) → n ≤ 32 → ((m : ℕ) → n ≤ m → m < 32 → clock_of w m ≡ 0) → old ++ flat_map entry_text (above v w n (32 - n)) ≡ all → old ≡ all
+entries_end v w n old all le none so_far = sym (append-nil old) ∙ ap (λ (ps : List Point). old ++ flat_map entry_text ps) (sym (none_above v w n (32 - n) (omega (arith, le)) none)) ∙ so_far
 
 -- a number and its rest by 2^64 have the same 8 bytes
 pub eight_mod : (n : ℕ) → eight (n % 2 ^ 64) ≡ eight n

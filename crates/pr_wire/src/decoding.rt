@@ -12,8 +12,8 @@ use pr_inval::Msg;
 use pr_stamps::NoMemory;
 use std::alloc::Global;
 
-/// The message of which these bytes are just the frame in format 2 (docs/WIRE.md), in time linear in them. It takes memory
-/// for what is decoded alone.
+/// The message of which these bytes are just the frame in format 2 (docs/WIRE.md), in time linear in them. It takes
+/// memory for what is decoded alone.
 pub fn decode(alloc: Global, bytes: &[u8]) -> Result<Msg, NoMemory>
     requires { (m : Msg) × IsFrame Format.Two m bytes.now }
     ensures { (m : Msg) → IsFrame Format.Two m bytes.now → IfOk result (λ n. n ≡ m) }

@@ -4,7 +4,7 @@ ghost use Rattle.pr_wire.specs.Messages.{IsInWidth};
 ghost use Rattle.pr_wire.specs.Pieces.{left_text, rest_of};
 ghost use Rattle.pr_wire.specs.Spelling.{content, eight, spelling};
 ghost use Rattle.pr_wire.specs.declared.format.Format.{Format};
-ghost use Rattle.std.specs.Prelude.{◌≡◌, ◌≤◌, ◌<◌, ◌+◌, ◌-◌, ◌%◌, ◌^◌, [], ◌∷◌, ◌++◌, length, min, take, drop, true, false, OnErr, OnOk};
+ghost use Rattle.std.specs.Prelude.{◌≡◌, ◌≤◌, ◌<◌, ◌+◌, ◌-◌, ◌%◌, ◌^◌, [], ◌∷◌, ◌++◌, length, min, take, drop, true, false, IfSome, OnErr, OnOk};
 
 use crate::frame::HEAD;
 use crate::width::known_width;
@@ -22,27 +22,53 @@ pub struct Pieces<'a> {
 }
 
 impl<'a> Pieces<'a> {
-    /// The pieces of a message, in time linear in its frame, of which the length stands before the content. The fields up
-    /// to the first list are made once.
+    /// The pieces of a message, in time linear in its frame, of which the length stands before the content. The fields
+    /// up to the first list are made once, where they are given from, and so is a short target or body.
+    #[inline]
     pub fn new(msg: &'a Msg) -> Pieces<'a>
         requires { IsMessage msg.now }
         ensures rest { rest_of result ≡ spelling Format.Two msg.now }
         ensures width { IsInWidth msg.now }
     {
+        let mut pieces = Pieces::of(Chunk::new(), Left::Nothing);
+        pieces.begin(msg);
+        pieces
+    }
+
+    // Makes the first fields in the chunk, which is empty.
+    fn begin(&mut self, msg: &'a Msg)
+        requires message { IsMessage msg.now }
+        requires empty { self.old.chunk.items ≡ [] }
+        requires start { self.old.at ≡ 0 }
+        ensures rest { rest_of self.new ≡ spelling Format.Two msg.now }
+        ensures width { IsInWidth msg.now }
+    {
         known_width(msg);
-        let mut chunk = Chunk::new();
-        put_head(&mut chunk);
-        let left = open(msg, &mut chunk);
-        let len = len_of(left).wrapping_add(chunk.len() as u64 - HEAD as u64);
-        set_length(&mut chunk, len);
-        Pieces { chunk, at: 0, left }
+        put_head(&mut self.chunk);
+        self.left = open(msg, &mut self.chunk);
+        let len = len_of(self.left).wrapping_add(self.chunk.len() as u64 - HEAD as u64);
+        set_length(&mut self.chunk, len);
     }
 
     // What is in the chunk, and then what is left.
+    #[inline]
     pub(crate) fn of(chunk: Chunk, left: Left<'a>) -> Pieces<'a>
-        ensures { rest_of result ≡ chunk.items ++ left_text left.entry }
+        ensures rest { rest_of result ≡ chunk.items ++ left_text left.entry }
+        ensures chunk { result.chunk ≡ chunk }
+        ensures start { result.at ≡ 0 }
     {
         Pieces { chunk, at: 0, left }
+    }
+
+    /// The whole rest, where all of it is made, in constant time. So it is from the start for a precise message, for a
+    /// body of at most 512 bytes, and for a target before whose last interval the frame has at most 533 bytes.
+    pub fn whole(&self) -> Option<&[u8]>
+        ensures { IfSome result (λ bytes. bytes.now ≡ rest_of self.now) }
+    {
+        match self.left {
+            Left::Nothing => self.chunk.as_slice().get(self.at..),
+            _ => None,
+        }
     }
 
     /// Gives the first bytes of the rest, as many as the buffer takes, and takes them off the rest. It gives 0 just
@@ -111,12 +137,14 @@ fn set_length(chunk: &mut Chunk, len: u64)
     chunk.as_mut_slice()[1..HEAD].copy_from_slice(&len.to_be_bytes());
 }
 
-// How many bytes are left, as 8 bytes hold it.
+// How many bytes are left, as 8 bytes hold it. What is left of lists is written for that, and a body is not.
 fn len_of(left: Left) -> u64
     ensures { result ≡ length (left_text left.entry) % 2 ^ 64 }
 {
-    if let Left::Nothing = left {
-        return 0;
+    match left {
+        Left::Nothing => return 0,
+        Left::Bytes(bytes) => return bytes.len() as u64,
+        _ => {}
     }
     let mut chunk = Chunk::new();
     let mut rest = step(left, &mut chunk);

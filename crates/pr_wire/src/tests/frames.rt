@@ -242,18 +242,81 @@ fn body_frame(alloc: Global, len: usize) -> Result<Vec<u8>, Fail> {
     frame(alloc, 4, (1, 0, 1), &parts)
 }
 
-// Whether a message goes through its frame of so many bytes.
-fn goes_through(alloc: Global, len: usize) -> Result<bool, Fail> {
-    let frame = body_frame(alloc, len)?;
-    let msg = message_of(alloc, &frame)?;
+// Whether the message of a frame goes through its bytes.
+fn goes_through(alloc: Global, frame: &[u8]) -> Result<bool, Fail> {
+    let msg = message_of(alloc, frame)?;
     let again = encoded_again(alloc, &msg)?;
-    Ok(frame.len() == len && again.as_slice() == frame.as_slice())
+    Ok(again.as_slice() == frame)
+}
+
+// Whether a body whose frame has so many bytes goes through them.
+fn body_goes_through(alloc: Global, len: usize) -> Result<bool, Fail> {
+    let frame = body_frame(alloc, len)?;
+    Ok(frame.len() == len && goes_through(alloc, &frame)?)
 }
 
 #[test]
 fn messages_of_a_piece_and_more_go_through_their_bytes(rt: HostRuntime) -> Result<(), Fail> {
-    for len in [511, 512, 513, 1024, 1025] {
-        assert!(rt; goes_through(rt.alloc(), len)?, "{len} bytes");
+    for len in [511, 512, 513, 561, 562, 1024, 1025] {
+        assert!(rt; body_goes_through(rt.alloc(), len)?, "{len} bytes");
     }
+    Ok(())
+}
+
+// Whether the frame is made whole.
+fn is_whole(alloc: Global, frame: &[u8]) -> Result<bool, Fail> {
+    let msg = message_of(alloc, frame)?;
+    let pieces = Pieces::new(&msg);
+    match pieces.whole() {
+        Some(bytes) => Ok(bytes == frame),
+        None => Ok(false),
+    }
+}
+
+// Whether the contents of each kind go through their bytes, and are made whole where they are no checkpoint.
+fn contents_go_through(alloc: Global) -> Result<bool, Fail> {
+    for (kind, parts) in &CONTENTS {
+        let frame = frame(alloc, *kind, (1, 0, 1), parts)?;
+        if !goes_through(alloc, &frame)? || is_whole(alloc, &frame)? != (*kind != 3) {
+            return Ok(false);
+        }
+    }
+    Ok(true)
+}
+
+#[test]
+fn messages_of_all_kinds_go_through_their_bytes(rt: HostRuntime) -> Result<(), Fail> {
+    assert!(rt; contents_go_through(rt.alloc())?);
+    Ok(())
+}
+
+// The frame of a target of the longest names, with an interval for each two letters.
+fn target_frame(alloc: Global, letters: &[u8]) -> Result<Vec<u8>, Fail> {
+    let mut target = Vec::new(alloc);
+    for letter in letters {
+        append(&mut target, &[64])?;
+        append(&mut target, &[*letter; 64])?;
+    }
+    let count = (letters.len() as u64 / 2).to_be_bytes();
+    let parts: [&[u8]; 4] = [NONE, NONE, &count, &target];
+    frame(alloc, 2, (1, 0, 1), &parts)
+}
+
+// Whether the target comes back in pieces of each size, goes through its bytes, and is made whole or not.
+fn target_comes_back(alloc: Global, letters: &[u8], whole: bool) -> Result<bool, Fail> {
+    let frame = target_frame(alloc, letters)?;
+    for len in [1, 7, 4096] {
+        if !comes_back(alloc, frame.as_slice(), len)? {
+            return Ok(false);
+        }
+    }
+    Ok(goes_through(alloc, &frame)? && is_whole(alloc, &frame)? == whole)
+}
+
+#[test]
+fn long_targets_come_back(rt: HostRuntime) -> Result<(), Fail> {
+    assert!(rt; target_comes_back(rt.alloc(), b"abcdefgh", true)?);
+    assert!(rt; target_comes_back(rt.alloc(), b"abcdefghij", false)?);
+    assert!(rt; target_comes_back(rt.alloc(), b"abcdefghijklmnop", false)?);
     Ok(())
 }

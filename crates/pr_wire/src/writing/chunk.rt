@@ -4,8 +4,8 @@ ghost use Rattle.std.specs.Prelude.{◌≡◌, ◌≤◌, ◌+◌, [], ◌∷◌
 
 use arrayvec::ArrayVec;
 
-/// Room for the fields that are written at once: at most those of a precise message, which have 684 bytes, behind the
-/// frame's head of 9.
+/// Room for what is written at once: the fields of a precise message, which have at most 684 bytes, behind the frame's
+/// head of 9; or the first fields of another, with a short target or body.
 pub type Chunk = ArrayVec<u8, 704>;
 
 pub fn put_byte(chunk: &mut Chunk, byte: u8)

@@ -1,14 +1,21 @@
 // The first fields of a message's content.
 ghost use Rattle.pr_wire.specs.Pieces.{left_text};
-ghost use Rattle.pr_wire.specs.Spelling.{content, kind_byte, kind_text};
+ghost use Rattle.pr_wire.specs.Spelling.{content, kind_byte, kind_text, span_text};
 ghost use Rattle.pr_wire.specs.declared.format.Format.{Format};
-ghost use Rattle.std.specs.Prelude.{◌≡◌, ◌≤◌, ◌+◌, [], ◌++◌, length};
+ghost use Rattle.std.specs.Prelude.{◌≡◌, ◌≤◌, ◌+◌, [], ◌++◌, length, flat_map, max};
 
-use crate::writing::chunk::{Chunk, put_byte, put_eight, put_four};
-use crate::writing::fields::{put_name, put_stamp, put_write};
+use crate::writing::chunk::{Chunk, put, put_byte, put_eight, put_four};
+use crate::writing::fields::{put_name, put_span, put_stamp, put_write};
 use crate::writing::left::Left;
 use crate::writing::vectors::{put_packed, put_points};
 use pr_inval::{Kind, Msg};
+use pr_names::Interval;
+
+// Behind at most so many bytes one interval more is added.
+const ROOM: usize = 533;
+
+// A body of at most so many bytes is added.
+const SHORT: usize = 512;
 
 fn kind_byte(kind: &Kind) -> u8
     ensures { result ≡ kind_byte kind.now }
@@ -21,7 +28,8 @@ fn kind_byte(kind: &Kind) -> u8
     }
 }
 
-/// Adds the fields up to the first list, or to the end, and says what is left.
+/// Adds the fields up to the first list, with an imprecise message's target, or a body, where that is short, and says
+/// what is left.
 #[tactic(auto, unfolding(crate::specs::Spelling::content))]
 pub fn open<'a>(msg: &'a Msg, chunk: &mut Chunk) -> Left<'a>
     requires { length chunk.old.items ≤ 9 }
@@ -52,7 +60,7 @@ fn open_kind<'a>(kind: &'a Kind, chunk: &mut Chunk) -> Left<'a>
         Kind::Imprecise { from, to, target } => {
             put_points(chunk, from, to);
             put_eight(chunk, target.count() as u64);
-            Left::Target(target.parts())
+            put_target(chunk, target.parts())
         }
         Kind::Checkpoint {
             to,
@@ -72,7 +80,38 @@ fn open_kind<'a>(kind: &'a Kind, chunk: &mut Chunk) -> Left<'a>
             put_name(chunk, name);
             put_stamp(chunk, stamp);
             put_eight(chunk, bytes.len() as u64);
-            Left::Bytes(bytes.as_slice())
+            put_body(chunk, bytes.as_slice())
         }
     }
+}
+
+// Adds the first intervals, as long as there is room, and says what is left.
+fn put_target<'a>(chunk: &mut Chunk, parts: &'a [Interval]) -> Left<'a>
+    ensures text { chunk.old.items ++ flat_map span_text parts.now ≡ chunk.new.items ++ left_text result }
+    ensures grows { length chunk.old.items ≤ length chunk.new.items }
+    ensures size { length chunk.new.items ≤ max (length chunk.old.items) 663 }
+{
+    let mut left = parts;
+    while let [part, rest @ ..] = left {
+        if chunk.len() > ROOM {
+            return Left::Target(left);
+        }
+        put_span(chunk, part);
+        left = rest;
+    }
+    Left::Nothing
+}
+
+// Adds a body where it is short, or says that it is left.
+fn put_body<'a>(chunk: &mut Chunk, bytes: &'a [u8]) -> Left<'a>
+    requires { length chunk.old.items ≤ 112 }
+    ensures text { chunk.old.items ++ bytes.now ≡ chunk.new.items ++ left_text result }
+    ensures grows { length chunk.old.items ≤ length chunk.new.items }
+    ensures size { length chunk.new.items ≤ length chunk.old.items + 512 }
+{
+    if bytes.len() > SHORT {
+        return Left::Bytes(bytes);
+    }
+    put(chunk, bytes);
+    Left::Nothing
 }

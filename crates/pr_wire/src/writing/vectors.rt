@@ -1,47 +1,68 @@
 // Vectors, and what one has above another.
-ghost use Rattle.pr_wire.specs.Spelling.{above, entry_text, rise_text, vector_text};
-ghost use Rattle.std.specs.Prelude.{◌≡◌, ◌≤◌, ◌+◌, ◌++◌, length, flat_map};
+ghost use Rattle.pr_vectors.specs.Vector.{zero_vector};
+ghost use Rattle.pr_wire.specs.Spelling.{above, eight, entry_text, rise_text, vector_text};
+ghost use Rattle.std.specs.Prelude.{◌≡◌, ◌≤◌, ◌<◌, ◌+◌, ◌∷◌, ◌++◌, length, drop, flat_map, take};
 
 use crate::writing::chunk::{Chunk, put_byte, put_eight};
-use pr_stamps::NODES;
 use pr_vectors::{PackedVector, Vector};
 
-// At how many nodes the second vector is above the first.
-fn count_above(from: &Vector, to: &Vector) -> u8
+// The clock of a node.
+fn put_entry(chunk: &mut Chunk, node: u32, clock: u64)
+    requires room { length chunk.old.items + 9 ≤ 704 }
+    requires node { node < 32 }
+    ensures text { chunk.new.items ≡ chunk.old.items ++ node ∷ eight clock }
+    ensures size { length chunk.new.items ≡ length chunk.old.items + 9 }
+{
+    put_byte(chunk, node as u8);
+    put_eight(chunk, clock);
+}
+
+// Writes the byte over the one at this place.
+fn set_byte(chunk: &mut Chunk, at: usize, byte: u8)
+    requires { at < length chunk.old.items }
+    ensures { chunk.new.items ≡ take at chunk.old.items ++ byte ∷ drop (at + 1) chunk.old.items }
+{
+    chunk.as_mut_slice()[at] = byte;
+}
+
+// The entries of the nodes at which the second vector is above the first, and how many they are.
+fn put_above(chunk: &mut Chunk, from: &Vector, to: &Vector) -> u8
+    requires room { length chunk.old.items + 288 ≤ 704 }
+    ensures text { chunk.new.items ≡ chunk.old.items ++ flat_map entry_text (above from.now to.now 0 32) }
     ensures count { result ≡ length (above from.now to.now 0 32) }
-    ensures most { result ≤ 32 }
+    ensures size { length chunk.new.items ≤ length chunk.old.items + 288 }
+    ensures grows { length chunk.old.items ≤ length chunk.new.items }
 {
     let mut count = 0;
     for n in 0..to.nodes() {
         if from.at(n) < to.at(n) {
+            put_entry(chunk, n, to.at(n));
             count += 1;
         }
     }
     count
 }
 
-// The entries of the nodes at which the second vector is above the first, so many as there are, up to the last of them.
-fn put_entries(chunk: &mut Chunk, from: &Vector, to: &Vector, count: u8)
+// The same where the first vector is the zero vector, which is not made.
+fn put_clocks(chunk: &mut Chunk, vector: &Vector) -> u8
     requires room { length chunk.old.items + 288 ≤ 704 }
-    requires count { count ≡ length (above from.now to.now 0 32) }
-    ensures text { chunk.new.items ≡ chunk.old.items ++ flat_map entry_text (above from.now to.now 0 32) }
+    ensures text { chunk.new.items ≡ chunk.old.items ++ flat_map entry_text (above zero_vector vector.now 0 32) }
+    ensures count { result ≡ length (above zero_vector vector.now 0 32) }
     ensures size { length chunk.new.items ≤ length chunk.old.items + 288 }
     ensures grows { length chunk.old.items ≤ length chunk.new.items }
 {
-    let mut left = count;
-    for n in 0..NODES {
-        if left == 0 {
-            return;
-        }
-        if from.at(n) < to.at(n) {
-            put_byte(chunk, n as u8);
-            put_eight(chunk, to.at(n));
-            left -= 1;
+    let mut count = 0;
+    for n in 0..vector.nodes() {
+        if 0 < vector.at(n) {
+            put_entry(chunk, n, vector.at(n));
+            count += 1;
         }
     }
+    count
 }
 
-// What the second vector has above the first.
+// What the second vector has above the first. How many nodes that are is set behind their entries, so that the vectors
+// are gone over once.
 #[tactic(auto, unfolding(crate::specs::Spelling::rise_text))]
 fn put_rise(chunk: &mut Chunk, from: &Vector, to: &Vector)
     requires { length chunk.old.items + 289 ≤ 704 }
@@ -49,19 +70,24 @@ fn put_rise(chunk: &mut Chunk, from: &Vector, to: &Vector)
     ensures size { length chunk.new.items ≤ length chunk.old.items + 289 }
     ensures grows { length chunk.old.items ≤ length chunk.new.items }
 {
-    let count = count_above(from, to);
-    put_byte(chunk, count);
-    put_entries(chunk, from, to, count);
+    let at = chunk.len();
+    put_byte(chunk, 0);
+    let count = put_above(chunk, from, to);
+    set_byte(chunk, at, count);
 }
 
-#[tactic(auto, unfolding(crate::specs::Spelling::vector_text))]
+/// What the vector has above the zero vector.
+#[tactic(auto, unfolding(crate::specs::Spelling::vector_text, crate::specs::Spelling::rise_text))]
 pub fn put_vector(chunk: &mut Chunk, vector: &Vector)
     requires { length chunk.old.items + 289 ≤ 704 }
     ensures text { chunk.new.items ≡ chunk.old.items ++ vector_text vector.now }
     ensures size { length chunk.new.items ≤ length chunk.old.items + 289 }
     ensures grows { length chunk.old.items ≤ length chunk.new.items }
 {
-    put_rise(chunk, &Vector::zero(), vector);
+    let at = chunk.len();
+    put_byte(chunk, 0);
+    let nodes = put_clocks(chunk, vector);
+    set_byte(chunk, at, nodes);
 }
 
 pub fn put_packed(chunk: &mut Chunk, vector: &PackedVector)
