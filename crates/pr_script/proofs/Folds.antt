@@ -1,9 +1,9 @@
 -- What one more line or byte does.
-use Rattle.std.proofs.Common.{◌≡◌, ◌≢◌, take, length, get_or, ◌<◌, ◌≤◌, Result, Ok, Err, ℕ, ◌+◌, List, [], ◌∷◌, ◌++◌, refl, sym, ap, subst, ◌∙◌, append_assoc}
+use Rattle.std.proofs.Common.{◌≡◌, ◌≢◌, Result, Ok, Err, ℕ, List, [], ◌∷◌, ◌++◌, refl, sym, ap, ◌∙◌, append_assoc}
 use Rattle.std.specs.List.{flat_map, AllByRecursion}
 use Rattle.std.proofs.lemmas.Grind.{flat_map-append}
 use Rattle.std.proofs.lemmas.List.Concat.{flat_map-cons}
-use Rattle.std.proofs.lemmas.List.{append-nil, take_more, take_all}
+use Rattle.std.proofs.lemmas.List.{append-nil}
 use Rattle.pr_script.specs.Reading.{Sofar, ended, HasNoEnd, next, start, after, answer_of, StandsFor}
 use Rattle.pr_script.specs.Answers.{IsEnd, Told, Answers}
 use Rattle.pr_script.specs.declared.script.Script.{Script}
@@ -45,14 +45,6 @@ one_line f rest bytes (lines, cut, is) =
 
 pub one_end : (f g : Sofar) (rest none bytes : List ℕ) (b : ℕ) → b ≡ 10 → g ≡ next f rest → none ≡ [] → StandsFor f rest bytes → StandsFor g none (bytes ++ b ∷ [])
 one_end f g rest none bytes b e1 e2 e3 h = rw (e1, e2, e3) (one_line f rest bytes h)
-
-pub more_bytes : (f : Sofar) (rest bytes piece : List ℕ) (i : ℕ) → i < length piece → StandsFor f rest ((bytes ++ take i piece) ++ get_or piece i 0 ∷ []) → StandsFor f rest (bytes ++ take (i + 1) piece)
-more_bytes f rest bytes piece i lt h =
-    let e : (bytes ++ take i piece) ++ get_or piece i 0 ∷ [] ≡ bytes ++ take (i + 1) piece = rw (append_assoc, take_more piece i 0 lt) refl in
-    subst (λ (x : List ℕ). StandsFor f rest x) e h
-
-pub whole_piece : (f : Sofar) (rest bytes piece : List ℕ) (i : ℕ) → length piece ≤ i → StandsFor f rest (bytes ++ take i piece) → StandsFor f rest (bytes ++ piece)
-whole_piece f rest bytes piece i le h = subst (λ (x : List ℕ). StandsFor f rest (bytes ++ x)) (take_all i piece le) h
 
 pub ended_whole : (f : Sofar) (rest bytes : List ℕ) → rest ≡ [] → StandsFor f rest bytes → IsEnd f bytes
 ended_whole f [] bytes e (lines, cut, is) = (lines, [], cut, is)

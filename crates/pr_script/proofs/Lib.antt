@@ -1,4 +1,5 @@
 pub mod Folds
+pub mod Segments
 pub mod Texts
 pub mod Digits
 pub mod FieldsAgain

@@ -2,9 +2,10 @@
 ghost use Rattle.pr_script.specs.Answers.{Answers, Holds, IsEnd};
 ghost use Rattle.pr_script.specs.Good.{IsGood};
 ghost use Rattle.pr_script.specs.Labels.{AreLabels};
-ghost use Rattle.pr_script.specs.Reading.{StandsFor};
+ghost use Rattle.pr_script.specs.Reading.{StandsFor, next};
 ghost use Rattle.pr_script.specs.declared.fault.ScriptFault.TheVariants as faults;
-ghost use Rattle.std.specs.Prelude.{◌≡◌, ◌++◌, ◌∷◌, [], IfOk, IsErr, IsErrOf, List, OnErr, OnOk, true, ℕ};
+ghost use Rattle.std.specs.List.{position};
+ghost use Rattle.std.specs.Prelude.{◌≡◌, ◌++◌, ◌<◌, ◌==◌, [], IfOk, IfSome, IsErr, IsErrOf, List, OnErr, OnOk, length, true, ℕ};
 
 use crate::progress::Progress;
 use crate::{Bytes, Script, ScriptFault};
@@ -102,21 +103,40 @@ fn bytes(
 ) -> Result<(), NoMemory>
     ensures { OnOk result ((bytes : List ℕ) → StandsFor progress.old under.old bytes → StandsFor progress.new under.new (bytes ++ piece.now)) }
 {
-    for b in piece {
-        byte(progress, under, alloc, *b)?;
+    let mut rest = piece;
+    while let Some(at) = line_end(rest) {
+        whole_line(progress, under, alloc, &rest[..at])?;
+        rest = &rest[at + 1..];
     }
+    under.extend(rest)?;
     Ok(())
 }
 
-fn byte(progress: &mut Progress, under: &mut Bytes, alloc: Global, b: u8) -> Result<(), NoMemory>
-    ensures { OnOk result ((bytes : List ℕ) → StandsFor progress.old under.old bytes → StandsFor progress.new under.new (bytes ++ b ∷ [])) }
+fn line_end(bytes: &[u8]) -> Option<usize>
+    ensures place { result ≡ position (λ b. b == 10) bytes.now }
+    ensures within { IfSome result (λ at. at < length bytes.now) }
 {
-    if b == b'\n' {
-        progress.line(alloc, under.as_slice())?;
-        under.truncate(0);
+    bytes.iter().position(|b| *b == b'\n')
+}
+
+// The line under way, which ends behind these bytes. A line that lies in one piece is not copied.
+fn whole_line(
+    progress: &mut Progress,
+    under: &mut Bytes,
+    alloc: Global,
+    last: &[u8],
+) -> Result<(), NoMemory>
+    ensures line { OnOk result (progress.new ≡ next progress.old (under.old ++ last.now)) }
+    ensures under { OnOk result (under.new ≡ []) }
+{
+    if under.is_empty() {
+        progress.line(alloc, last)?;
         return Ok(());
     }
-    under.push(b)
+    under.extend(last)?;
+    progress.line(alloc, under.as_slice())?;
+    under.truncate(0);
+    Ok(())
 }
 
 fn ended(alloc: Global, progress: Progress, under: &[u8]) -> Result<Script, ScriptFault>
