@@ -8,3 +8,4 @@ pub mod Steps
 pub mod Histories
 pub mod Laws
 pub mod Plain
+pub mod Kept

@@ -22,14 +22,14 @@ pub fn line(decls: &Decls, node: u32, event: &Event, line: &mut Bytes) -> Result
     ensures ok { OnOk result (line.new ≡ line_text decls.now.list node event.now) }
     ensures err { OnErr result (line.new ≡ []) }
 {
-    match make_line(&Stock::new(decls, &[]), node, event, line) {
+    match make_line(&Stock::of(decls), node, event, line) {
         Ok(()) => Ok(()),
         Err(_) => Err(refused(line)),
     }
 }
 
-/// Makes the line that `line` makes, with texts of clocks that are kept for the lines to come. Where these are of no node
-/// yet, and where a node's clock has more digits than before, it takes memory for them too.
+/// Makes the line that `line` makes, with texts of clocks that are kept for the lines to come. It takes memory for them
+/// too, mostly only where one has more digits than before.
 pub fn next_line(
     decls: &Decls,
     clocks: &mut ClockTexts,
@@ -68,8 +68,12 @@ fn make_next(
     ensures line { OnOk result (text.new ≡ line_text decls.now.list node event.now) }
     ensures nodes { AreOfNodes decls.now.list clocks.new }
 {
-    clocks.expect(decls, event)?;
-    make_line(&Stock::new(decls, clocks.pieces()), node, event, text)
+    if !ClockTexts::is_for(decls) {
+        return make_line(&Stock::of(decls), node, event, text);
+    }
+    clocks.begin(decls)?;
+    clocks.expect(event)?;
+    make_line(&Stock::with(decls, clocks), node, event, text)
 }
 
 // Makes the event's line in place of what `text` had. A refusal leaves a part of it.

@@ -25,6 +25,7 @@ mod stream;
 #[cfg(test)]
 mod tests;
 mod vector;
+mod vector_text;
 
 pub use clock_texts::ClockTexts;
 pub use ending::{bad, error, lied, ok, unmet};

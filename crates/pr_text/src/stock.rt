@@ -1,42 +1,55 @@
 // What the fields of lines are printed with.
 ghost use Rattle.pr_script.specs.Labels.{labels_of};
 ghost use Rattle.pr_script.specs.declared.kind.Kind.TheVariants as kinds;
-ghost use Rattle.pr_text.specs.Texts.{AreOfNodes, vector_text};
+ghost use Rattle.pr_text.specs.Texts.{vector_text};
 ghost use Rattle.std.specs.Prelude.{◌≡◌, ◌++◌, OnOk};
 
+use crate::ClockTexts;
 use crate::packed::push_clocks;
-use crate::piece::Piece;
-use crate::pieces::push_pieces;
 use pr_script::{Bytes, Decls, Kind};
 use pr_stamps::NoMemory;
 use pr_vectors::PackedVector;
 use std::marker::Model;
 
-/// The declarations, and for each node the text of a clock that may come again, or none of these. Contracts see it as the
+/// The declarations, and where lines come one after another the texts that may come again. Contracts see it as the
 /// declarations.
 #[derive(Drop)]
 pub struct Stock<'a> {
     decls: &'a Decls,
-    pieces: &'a [Piece],
+    clocks: Option<&'a ClockTexts>,
 }
 
 impl<'a> Model for Stock<'a> {
+    ghost use Rattle.std.specs.Prelude.{◌≡◌, IfSome};
     ghost use Rattle.pr_script.specs.Listed.{Declarations};
-    ghost use Rattle.pr_text.specs.Texts.{AreOfNodes};
+    ghost use Rattle.pr_script.specs.Labels.{labels_of};
+    ghost use Rattle.pr_script.specs.declared.kind.Kind.TheVariants as kinds;
 
     ghost Value = { Declarations };
 
     ghost view = { λ s. s.decls.now };
 
-    ghost invariant = { λ s. AreOfNodes s.decls.now.list s.pieces.now };
+    ghost invariant = { λ s. IfSome s.clocks (λ clocks. clocks.now ≡ labels_of kinds.Node s.decls.now.list) };
 }
 
 impl<'a> Stock<'a> {
-    pub fn new(decls: &'a Decls, pieces: &'a [Piece]) -> Stock<'a>
-        requires { AreOfNodes decls.now.list pieces.now }
+    pub fn of(decls: &'a Decls) -> Stock<'a>
         ensures { result ≡ decls.now }
     {
-        Stock { decls, pieces }
+        Stock {
+            decls,
+            clocks: None,
+        }
+    }
+
+    pub fn with(decls: &'a Decls, clocks: &'a ClockTexts) -> Stock<'a>
+        requires { clocks.now ≡ labels_of kinds.Node decls.now.list }
+        ensures { result ≡ decls.now }
+    {
+        Stock {
+            decls,
+            clocks: Some(clocks),
+        }
     }
 
     pub fn decls(&self) -> &Decls
@@ -45,14 +58,13 @@ impl<'a> Stock<'a> {
         self.decls
     }
 
-    /// Adds what `push_vector` adds for the same vector, without unpacking it: each clock that is kept as one copy.
+    /// Adds what `push_vector` adds for the same vector, without unpacking it.
     pub fn push(&self, vector: &PackedVector, text: &mut Bytes) -> Result<(), NoMemory>
         ensures { OnOk result (text.new ≡ text.old ++ vector_text self.now.list vector.now) }
     {
-        if self.pieces.is_empty() {
-            push_clocks(self.decls.labels(Kind::Node), vector, text)
-        } else {
-            push_pieces(self.pieces, vector, text)
+        match self.clocks {
+            Some(clocks) => clocks.push(vector, text),
+            None => push_clocks(self.decls.labels(Kind::Node), vector, text),
         }
     }
 }

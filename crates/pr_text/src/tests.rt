@@ -1,3 +1,4 @@
+mod kept;
 mod lines;
 
 use crate::{bad, error, heads, lied, line, ok, unmet};
