@@ -1,5 +1,5 @@
 -- The summary of a run: how many of its events are of each kind, what each node has been told, and how many entries there are.
-use Rattle.std.specs.Prelude.{ℕ, List, [], ◌∷◌, ◌++◌, Bool, true, false, codes, decimal, count_by, filter, length}
+use Rattle.std.specs.Prelude.{◌≡◌, ◌≤◌, ◌<◌, ◌⊎◌, ℕ, List, [], ◌∷◌, ◌++◌, Bool, true, false, codes, decimal, count_by, filter, get_or, length}
 use Rattle.std.specs.List.{flat_map, range_with_len}
 use Rattle.pr_inval.specs.declared.kind.Kind.{Kind}
 use Rattle.pr_inval.specs.declared.kind.Kind.TheVariants as sent
@@ -69,6 +69,10 @@ abbrev pub words : List Counted
 words =
     Writes ∷ Reads ∷ Values ∷ Nevers ∷ Imprecises ∷ Bodies ∷ Attaches ∷ Precise ∷ Imprecise ∷ Body ∷ Checkpoint ∷ Accepts
     ∷ Gaps ∷ Idles ∷ Stales ∷ Downs ∷ []
+
+-- each word that counts the event stands from the first of these places on, before the second
+abbrev pub AreOf : Event → ℕ × ℕ → Type 0
+AreOf event span = (i : ℕ) → i < 16 → (i < span.0) ⊎ (span.1 ≤ i) → is_counted (get_or words i Writes) event ≡ false
 
 -- how many entries of the history the word counts
 abbrev pub count_of : List NodeEntry → Counted → ℕ

@@ -1,6 +1,7 @@
 // What the summary counts.
 ghost use Rattle.pr_gen.specs.Summary as summary;
-ghost use Rattle.std.specs.Prelude.{◌≡◌};
+ghost use Rattle.pr_gen.specs.Summary.{AreOf};
+ghost use Rattle.std.specs.Prelude.{◌≡◌, ◌≤◌};
 
 use pr_inval::Kind;
 use pr_story::{Event, Reply};
@@ -46,6 +47,32 @@ pub const WORDS: [Counted; 16] = [
     Counted::Stales,
     Counted::Downs,
 ];
+
+/// The places in `WORDS` of the words that may count the event: the first, and the one behind the last. It takes
+/// constant time.
+pub fn span(event: &Event) -> (usize, usize)
+    ensures words { AreOf event.now result }
+    ensures most { result.1 ≤ 16 }
+{
+    match event {
+        Event::Wrote { .. } => (0, 1),
+        Event::Answered { .. } => (1, 6),
+        Event::Attached { .. } => (6, 7),
+        Event::Sent { .. } => (7, 11),
+        Event::Accepted { .. } => (11, 12),
+        Event::Gapped { .. } => (12, 13),
+        Event::Idle { .. } => (13, 14),
+        Event::Stale { .. } => (14, 15),
+        Event::Down { .. } => (15, 16),
+        Event::Missing { .. }
+        | Event::Behind { .. }
+        | Event::Moved { .. }
+        | Event::Cut { .. }
+        | Event::Dropped { .. }
+        | Event::Conflicts { .. }
+        | Event::State { .. } => (0, 0),
+    }
+}
 
 impl Counted {
     /// The word of its line.

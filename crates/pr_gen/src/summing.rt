@@ -7,7 +7,7 @@ ghost use Rattle.pr_story.specs.History.{NodeEntry};
 ghost use Rattle.std.specs.List.{flat_map, range_with_len};
 ghost use Rattle.std.specs.Prelude.{◌≡◌, ◌<◌, ◌≤◌, ◌+◌, ◌^◌, ◌++◌, ℕ, List, OnOk, cond, get_or, length, reverse};
 
-use crate::counted::{Counted, WORDS};
+use crate::counted::{Counted, WORDS, span};
 use pr_merge::{Held, entry_at};
 use pr_script::{Bytes, Decl, Decls, Kind, is_kind};
 use pr_stamps::NoMemory;
@@ -40,12 +40,13 @@ fn tally<H: Held>(held: &H) -> [u64; 16]
     counts
 }
 
-// Counts one event more.
+// Counts one event more. Only the words that may count it are asked.
 fn add(counts: &mut [u64; 16], event: &Event)
     requires { (i : ℕ) → i < 16 → get_or counts.old i 0 < 2 ^ 63 }
     ensures { (i : ℕ) → i < 16 → get_or counts.new i 0 ≡ get_or counts.old i 0 + cond (is_counted (get_or words i Writes) event.now) 1 0 }
 {
-    for at in 0..WORDS.len() {
+    let (from, end) = span(event);
+    for at in from..end {
         if WORDS[at].counts(event) {
             counts[at] += 1;
         }

@@ -13,6 +13,7 @@ use pr_check::{Judgement, TextJudge};
 use pr_ports::{Sink, Source};
 use pr_stamps::Seq;
 use std::alloc::Global;
+use std::mem;
 
 /// The most bytes of a text.
 pub const MOST_BYTES: usize = 67108864;
@@ -65,11 +66,16 @@ fn judge<S: Source>(alloc: Global, text: &mut S) -> Result<Judgement, CheckError
     }
 }
 
+// What was found at the end. The nodes of a transcript go back with the program, in one piece.
 fn finish(judge: TextJudge) -> Result<Judgement, CheckError>
     ensures { (bytes : List ℕ) → HasRead judge bytes → IsFoundAtEnd bytes result }
 {
     match judge.finish() {
-        Ok(reading) => Ok(reading.judgement()),
+        Ok(reading) => {
+            let judgement = reading.judgement();
+            mem::forget(reading);
+            Ok(judgement)
+        }
         Err(_) => Err(CheckError::NoMemory),
     }
 }

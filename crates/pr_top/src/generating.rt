@@ -14,6 +14,7 @@ use pr_ports::Sink;
 use pr_script::Bytes;
 use pr_stamps::Seq;
 use std::alloc::Global;
+use std::mem;
 
 /// Runs the generated script of a seed and a size in one thread, and writes the summary of its history.
 pub fn generate<K: Sink>(alloc: Global, seed: u64, size: u64, out: &mut K) -> Status
@@ -31,7 +32,8 @@ pub fn generate<K: Sink>(alloc: Global, seed: u64, size: u64, out: &mut K) -> St
     }
 }
 
-// The summary of the run.
+// The summary of the run. The script and what the run holds go back with the program, in one piece, as at the end of
+// `sim`.
 fn summed(alloc: Global, seed: u64, size: u64) -> Result<Bytes, Halt>
     requires { size ≤ 90000 }
     ensures { HasSummed (workload seed size) result }
@@ -39,6 +41,9 @@ fn summed(alloc: Global, seed: u64, size: u64) -> Result<Bytes, Halt>
     let script = script(alloc, seed, size)?;
     let run = run_silently(alloc, &script)?;
     let mut text = Seq::new(alloc);
-    summary(&script.decls, &run.engine, &mut text)?;
+    let told = summary(&script.decls, &run.engine, &mut text);
+    mem::forget(run);
+    mem::forget(script);
+    told?;
     Ok(text)
 }

@@ -27,6 +27,7 @@ use pr_sim::Engine;
 use pr_stamps::Seq;
 use pr_text::ClockTexts;
 use std::alloc::Global;
+use std::mem;
 
 /// How a kept run ended.
 #[derive(Drop)]
@@ -56,7 +57,8 @@ impl From<Halt> for Break {
 
 /// Makes a file on an empty disk, and then runs the script in one thread: each command's entries are kept one by one, in
 /// the order of the history, before any of their lines is written. It ends where the script does, or at the first call
-/// that the disk fails. It takes the time of the run, and of four calls of the disk for each entry.
+/// that the disk fails. It takes the time of the run, and of four calls of the disk for each entry. What a run that
+/// came to its end holds is not given back: it goes with the program.
 pub fn kept<D: Disk, K: Sink>(alloc: Global, script: &Script, disk: D, out: &mut K) -> (KeptEnd, D)
     requires good { IsGood script.now }
     requires empty { (D.state disk).reads ≡ [] }
@@ -129,7 +131,8 @@ fn halted<K: Sink>(alloc: Global, decls: &Decls, halt: Halt, out: &mut K) -> Kep
     KeptEnd::Ended { status }
 }
 
-// Writes the transcript up to its `ok` line, each entry kept before its line.
+// Writes the transcript up to its `ok` line, each entry kept before its line. What a run that came to its end holds
+// goes back with the program, in one piece.
 fn transcript<D: Disk, K: Sink>(
     alloc: Global,
     script: &Script,
@@ -143,7 +146,9 @@ fn transcript<D: Disk, K: Sink>(
 {
     let mut run = begin(alloc, script, out)?;
     commands(alloc, script, &mut run, keep, out)?;
-    Ok(end(alloc, script, &run, out)?)
+    let told = end(alloc, script, &run, out);
+    mem::forget(run);
+    Ok(told?)
 }
 
 // Runs all commands. Each one's entries are kept, and then their lines written, before the next runs.

@@ -23,8 +23,10 @@ use pr_keep::MemoryDisk;
 use pr_ports::Sink;
 use pr_script::Script;
 use std::alloc::Global;
+use std::mem;
 
-/// Runs a script as `kept` does, over a disk in memory that does not stop.
+/// Runs a script as `kept` does, over a disk in memory that does not stop. What that disk holds goes back with the
+/// program, in one piece.
 pub fn keep_all<K: Sink>(alloc: Global, script: &Script, out: &mut K) -> Status
     requires { IsGood script.now }
     ensures { HasRun JobAfterJob all_sound result script.now (HasRisen (K.faults out.old) (K.faults out.new)) (K.text out.old) (K.text out.new) }
@@ -32,6 +34,7 @@ pub fn keep_all<K: Sink>(alloc: Global, script: &Script, out: &mut K) -> Status
     let (end, disk) = kept(alloc, script, MemoryDisk::new(alloc, u64::MAX), out);
     // Asked for its promise alone: no more calls were good than its stop.
     let _ = disk.good();
+    mem::forget(disk);
     match end {
         KeptEnd::Ended { status } => status,
         KeptEnd::Stopped { .. } => unreachable!(),
@@ -41,7 +44,7 @@ pub fn keep_all<K: Sink>(alloc: Global, script: &Script, out: &mut K) -> Status
 /// Runs a script as `kept` does, over a disk in memory that answers so many calls, from 2 to 1,000,000,000, and then fails
 /// each. Where it stops, what it holds is told: the lines that were not yet written, the state of each node, which is made
 /// again of its entries, and `ok N`. The rest of the script is given up. Behind the run it takes time linear in what the disk
-/// holds, and that of making each node again.
+/// holds, and that of making each node again. What a disk that did not stop holds goes back with the program.
 pub fn keep_until<K: Sink>(alloc: Global, script: &Script, stop: u64, out: &mut K) -> Status
     requires good { IsGood script.now }
     requires labels { AreLabels script.now.decls.list }
@@ -53,7 +56,10 @@ pub fn keep_until<K: Sink>(alloc: Global, script: &Script, stop: u64, out: &mut 
     // Asked for its promise alone: no more calls were good than its stop.
     let _ = disk.good();
     match end {
-        KeptEnd::Ended { status } => status,
+        KeptEnd::Ended { status } => {
+            mem::forget(disk);
+            status
+        }
         KeptEnd::Stopped { lines, unmet } => outlive(alloc, script, disk, lines, unmet, out),
     }
 }

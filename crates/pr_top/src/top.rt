@@ -48,7 +48,8 @@ const MOST_STOP: u64 = 1_000_000_000;
 /// the nodes' journals. `ask` reads and runs a script, writes the asks of a node for the streams that end at it
 /// (docs/WIRE.md), and no line. `serve` and `pull` read a script up to the first byte 0, and run it; then `serve`
 /// answers the asks behind it at a node, and `pull` writes the transcript, gives the node the messages behind the
-/// script, and writes the lines of what it took in.
+/// script, and writes the lines of what it took in. What `sim`, `run`, `kept`, `gen` and `check` hold where they come
+/// to their end goes back with the program, in one piece.
 ///
 /// `run` returns if its threads return.
 pub fn practi<R: Threads + Wait + Sync, S: Source, K: Sink, W: Wires, G: Gate>(

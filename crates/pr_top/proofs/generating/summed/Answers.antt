@@ -29,18 +29,18 @@ returns-in_err-run c =
     subst (λ (r : Result (List ℕ) Halt). HasSummed (workload c.args.seed c.args.size) r) (sym done)
     (subst (λ (s : Script). HasSummed s (Err c.in_err-run.field-0.0)) c.in_ok-script.ensures.script c.in_err-run.ensures)
 
-pub summary-requires : goal.summary-requires
-summary-requires c =
+pub summary-told-requires : goal.summary-told-requires
+summary-told-requires c =
     let k = c.in_ok-run.ensures in
     let n = nodes_are c.in_ok-script.script.decls.list k.1.attached k.0 c.in_ok-run.run'.engine k.1.running in
     (k.0, has_history _ k.1.attached k.0 c.in_ok-run.run'.engine k.1.running, n.0, n.1)
 
-pub returns-in_err-summary : goal.returns-in_err-summary
-returns-in_err-summary c =
-    let p = err_from_is_err_and c.from_residual-in_err-summary.result c.from_residual-in_err-summary.ensures.1 in
+pub returns-in_err-told : goal.returns-in_err-told
+returns-in_err-told c =
+    let p = err_from_is_err_and c.from_residual-in_err-told.result c.from_residual-in_err-told.ensures.1 in
     let is = p.1 in
     let same = p.2 in
-    let done : c.from_residual-in_err-summary.result ≡ Err halts.NoMemory = cc in
+    let done : c.from_residual-in_err-told.result ≡ Err halts.NoMemory = cc in
     subst (λ (r : Result (List ℕ) Halt). HasSummed (workload c.args.seed c.args.size) r) (sym done)
     (subst (λ (s : Script). HasSummed s (Err halts.NoMemory)) c.in_ok-script.ensures.script
     (ended_stops c.in_ok-script.script c.in_ok-run.run'.engine c.in_ok-run.run'.unmet c.in_ok-run.ensures))
@@ -52,7 +52,7 @@ returns c =
     let s_is = c.in_ok-script.ensures.script in
     let held = has_history _ k.1.attached h c.in_ok-run.run'.engine k.1.running in
     let ds = c.in_ok-script.script.decls.list in
-    let told = c.in_ok-summary.ensures h held ∙ ap (λ (t : List ℕ). t ++ summary_text ds h) c.new-text.ensures ∙ ap (λ (s : Script). summary_text s.decls.list h) s_is in
-    all_summed c.args.seed c.args.size c.in_ok-run.run'.engine c.in_ok-run.run'.unmet c.summary.new.out h
+    let told = c.in_ok-told.ensures h held ∙ ap (λ (t : List ℕ). t ++ summary_text ds h) c.new-text.ensures ∙ ap (λ (s : Script). summary_text s.decls.list h) s_is in
+    all_summed c.args.seed c.args.size c.in_ok-run.run'.engine c.in_ok-run.run'.unmet c.summary-told.new.out h
     (subst (λ (s : Script). HasCome JobAfterJob s _ h c.in_ok-run.run'.engine c.in_ok-run.run'.unmet) s_is k.1)
     told
