@@ -123,7 +123,8 @@ WORKLOADS = {
 
 
 # A program is started as ./practi starts the proved one, where the caller sets nothing else.
-ENVIRONMENT = {"GLIBC_TUNABLES": "glibc.malloc.hugetlb=1"} | os.environ
+SETTINGS = "glibc.malloc.hugetlb=1:glibc.malloc.top_pad=8388608:glibc.malloc.mmap_threshold=4194304"
+ENVIRONMENT = {"GLIBC_TUNABLES": SETTINGS} | os.environ
 
 
 class Run:
