@@ -29,20 +29,30 @@ fn is_same(alloc: Global, decls: &Decls, clocks: &mut ClockTexts, event: &Event)
     Some(one.as_slice() == next.as_slice() && !next.is_empty())
 }
 
-// Whether the messages make the same lines, each of which starts where the one before it ends, but for the first again at
-// the end.
-fn are_same_in_turn(alloc: Global, decls: &Decls, clocks: &mut ClockTexts) -> Option<bool>
+// The same of the event that a message is sent.
+fn is_sent_the_same(
+    alloc: Global,
+    decls: &Decls,
+    clocks: &mut ClockTexts,
+    kind: Option<Kind>,
+) -> Option<bool>
     requires { AreOfNodes decls.now.list clocks.old }
+    ensures { AreOfNodes decls.now.list clocks.new }
 {
-    let first = sent(precise(alloc, false))?;
-    let second = sent(from_its_end(alloc))?;
-    Some(
-        is_same(alloc, decls, clocks, &first)?
-            && is_same(alloc, decls, clocks, &second)?
-            && is_same(alloc, decls, clocks, &first)?,
-    )
+    let event = sent(kind)?;
+    is_same(alloc, decls, clocks, &event)
 }
 
+// The same of the event that a message is accepted.
+fn is_accepted_the_same(alloc: Global, decls: &Decls, clocks: &mut ClockTexts) -> Option<bool>
+    requires { AreOfNodes decls.now.list clocks.old }
+    ensures { AreOfNodes decls.now.list clocks.new }
+{
+    let event = accepted(alloc)?;
+    is_same(alloc, decls, clocks, &event)
+}
+
+// A message that starts where the precise one ends.
 fn from_its_end(alloc: Global) -> Option<Kind> {
     let target = set(alloc, b"b")?;
     Some(Kind::Imprecise {
@@ -52,14 +62,24 @@ fn from_its_end(alloc: Global) -> Option<Kind> {
     })
 }
 
+// Whether the lines are the same of a message that nothing was kept for, of two each of which starts where the one before
+// it ends, and of the first of them again.
+fn are_same_in_turn(alloc: Global, decls: &Decls, clocks: &mut ClockTexts) -> Option<bool>
+    requires { AreOfNodes decls.now.list clocks.old }
+{
+    Some(
+        is_accepted_the_same(alloc, decls, clocks)?
+            && is_sent_the_same(alloc, decls, clocks, precise(alloc, false))?
+            && is_accepted_the_same(alloc, decls, clocks)?
+            && is_sent_the_same(alloc, decls, clocks, from_its_end(alloc))?
+            && is_sent_the_same(alloc, decls, clocks, precise(alloc, false))?,
+    )
+}
+
 fn are_same(alloc: Global) -> Option<bool> {
     let decls = three(alloc)?;
     let mut clocks = ClockTexts::new(alloc);
-    let accepted = accepted(alloc)?;
-    Some(
-        is_same(alloc, &decls, &mut clocks, &accepted)?
-            && are_same_in_turn(alloc, &decls, &mut clocks)?,
-    )
+    are_same_in_turn(alloc, &decls, &mut clocks)
 }
 
 #[test]
