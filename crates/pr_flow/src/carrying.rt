@@ -38,7 +38,8 @@ pub fn carry<W: Wire>(alloc: Global, msg: &Msg, wire: &mut W) -> Result<Carried,
     ensures moved { IsCarried (W.state wire.old) (W.state wire.new) msg.now result }
     ensures sound { IsTrue (W.state wire.old).sound → IsNoLieOrCut result }
 {
-    let mut pieces = Pieces::new(msg);
+    let mut pieces = Pieces::empty();
+    pieces.begin(msg);
     match pieces.whole() {
         Some(frame) if frame.len() < SHORT => carry_short(alloc, msg, frame, wire),
         _ => carry_pieces(alloc, msg, &mut pieces, wire),

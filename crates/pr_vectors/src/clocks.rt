@@ -91,9 +91,19 @@ impl Clocks {
         match (self, other) {
             (Clocks::Few(few), Clocks::Few(others)) => is_few(few, others),
             (Clocks::Near(near), Clocks::Near(others)) => **near == **others,
-            _ => self.vector() == other.vector(),
+            _ => is_whole(self, other),
         }
     }
+}
+
+// The same, of clocks that are packed in different ways, as hardly any are. The room for two vectors is cleared here alone.
+#[inline(never)]
+fn is_whole(clocks: &Clocks, others: &Clocks) -> bool
+    requires this { IsVector (vector_in clocks.now) }
+    requires other { IsVector (vector_in others.now) }
+    ensures { IsTrue result ↔ (vector_in clocks.now ≡ vector_in others.now) }
+{
+    clocks.vector() == others.vector()
 }
 
 fn is_few(few: &[u32; 8], others: &[u32; 8]) -> bool

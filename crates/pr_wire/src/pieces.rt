@@ -23,27 +23,36 @@ pub struct Pieces<'a> {
 
 impl<'a> Pieces<'a> {
     /// The pieces of a message, in time linear in its frame, of which the length stands before the content. The fields
-    /// up to the first list are made once, where they are given from, and so is a short target or body.
-    #[inline]
+    /// up to the first list are made once, and so is a short target or body. The pieces are moved to the caller, which
+    /// `begin` saves.
     pub fn new(msg: &'a Msg) -> Pieces<'a>
         requires { IsMessage msg.now }
         ensures rest { rest_of result ≡ spelling Format.Two msg.now }
         ensures width { IsInWidth msg.now }
     {
-        let mut pieces = Pieces::of(Chunk::new(), Left::Nothing);
+        let mut pieces = Pieces::empty();
         pieces.begin(msg);
         pieces
     }
 
-    // Makes the first fields in the chunk, which is empty.
-    fn begin(&mut self, msg: &'a Msg)
-        requires message { IsMessage msg.now }
-        requires empty { self.old.chunk.items ≡ [] }
-        requires start { self.old.at ≡ 0 }
+    /// The pieces of nothing, in constant time.
+    #[inline(always)]
+    pub fn empty() -> Pieces<'a>
+        ensures { rest_of result ≡ [] }
+    {
+        Pieces::of(Chunk::new(), Left::Nothing)
+    }
+
+    /// Forgets the rest, and begins a message in its place, as `new` does, in time linear in its frame. The fields are
+    /// made where these pieces stand, and not moved.
+    pub fn begin(&mut self, msg: &'a Msg)
+        requires { IsMessage msg.now }
         ensures rest { rest_of self.new ≡ spelling Format.Two msg.now }
         ensures width { IsInWidth msg.now }
     {
         known_width(msg);
+        self.chunk.clear();
+        self.at = 0;
         put_head(&mut self.chunk);
         self.left = open(msg, &mut self.chunk);
         let len = len_of(self.left).wrapping_add(self.chunk.len() as u64 - HEAD as u64);
@@ -51,11 +60,9 @@ impl<'a> Pieces<'a> {
     }
 
     // What is in the chunk, and then what is left.
-    #[inline]
+    #[inline(always)]
     pub(crate) fn of(chunk: Chunk, left: Left<'a>) -> Pieces<'a>
-        ensures rest { rest_of result ≡ chunk.items ++ left_text left.entry }
-        ensures chunk { result.chunk ≡ chunk }
-        ensures start { result.at ≡ 0 }
+        ensures { rest_of result ≡ chunk.items ++ left_text left.entry }
     {
         Pieces { chunk, at: 0, left }
     }

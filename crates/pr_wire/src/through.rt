@@ -24,7 +24,8 @@ pub fn through_bytes(alloc: Global, msg: &Msg) -> Result<Msg, NoMemory>
     requires { IsMessage msg.now }
     ensures { IfOk result (λ m. m ≡ msg.now) }
 {
-    let mut pieces = Pieces::new(msg);
+    let mut pieces = Pieces::empty();
+    pieces.begin(msg);
     match pieces.whole() {
         Some(frame) => decode(alloc, frame),
         None => through_pieces(alloc, &mut pieces),
