@@ -1,4 +1,5 @@
 pub mod Loops
+pub mod Parts
 pub mod Cut
 pub mod Items
 pub mod Same

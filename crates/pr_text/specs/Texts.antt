@@ -45,6 +45,10 @@ abbrev pub clocks : List (List ℕ) → ℕ → List ℕ → List (List ℕ)
 clocks [] w v = []
 clocks (l ∷ ls) w v = cond (nat_eq (clock_of v w) 0) (clocks ls (w + 1) v) ((l ++ 58 ∷ decimal (clock_of v w)) ∷ clocks ls (w + 1) v)
 
+-- LABEL:CLOCK behind a comma, or nothing where the clock is 0
+abbrev pub part : List ℕ → ℕ → List ℕ
+part l c = cond (nat_eq c 0) [] (44 ∷ (l ++ 58 ∷ decimal c))
+
 abbrev pub vector_text : List Decl → List ℕ → List ℕ
 vector_text ds v = listed (clocks (labels_of kinds.Node ds) 0 v)
 

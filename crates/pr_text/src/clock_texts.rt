@@ -6,7 +6,7 @@ ghost use Rattle.std.specs.Prelude.{◌≡◌, ◌++◌, [], IfSome, OnOk};
 
 use crate::packed::clock_at;
 use crate::piece::Piece;
-use crate::pieces::{keep_pieces, pieces_of, push_pieces};
+use crate::pieces::{pieces_of, push_pieces};
 use crate::vector_text::VectorText;
 use pr_inval::Kind as Told;
 use pr_script::{Bytes, Decls, Kind};
@@ -124,24 +124,23 @@ impl ClockTexts {
         }
     }
 
-    // Mostly it is where the message before ends.
+    // Mostly it is where the message before ends, or where that starts.
     fn keep_from(&mut self, vector: &PackedVector, node: usize) -> Result<(), NoMemory>
         ensures { self.new ≡ self.old }
     {
-        if self.to.of(vector).is_some() {
-            mem::swap(&mut self.from, &mut self.to);
+        if self.from.of(vector).is_some() {
             return Ok(());
         }
+        mem::swap(&mut self.from, &mut self.to);
         self.from
-            .keep(self.alloc, self.pieces.as_slice(), vector, node)
+            .keep(self.alloc, &mut self.pieces, &self.to, vector, node)
     }
 
     fn keep_to(&mut self, vector: &PackedVector, node: usize) -> Result<(), NoMemory>
         ensures { self.new ≡ self.old }
     {
-        keep_pieces(&mut self.pieces, vector)?;
         self.to
-            .keep(self.alloc, self.pieces.as_slice(), vector, node)
+            .keep(self.alloc, &mut self.pieces, &self.from, vector, node)
     }
 }
 

@@ -1,7 +1,7 @@
 // Vectors at rest.
 ghost use Rattle.pr_vectors.specs.Vector.{clock_of};
 ghost use Rattle.pr_text.specs.Texts.{clocks, listed};
-ghost use Rattle.std.specs.Prelude.{◌≡◌, ◌++◌, OnOk};
+ghost use Rattle.std.specs.Prelude.{◌≡◌, ◌<◌, ◌++◌, ℕ, IsTrue, OnOk};
 
 use crate::vector::{push_clock, push_hyphen};
 use pr_script::Bytes;
@@ -35,4 +35,16 @@ pub fn clock_at(vector: &PackedVector, node: usize) -> u64
 {
     let _in_range = vector.at(0);
     if node < 32 { vector.at(node as u32) } else { 0 }
+}
+
+/// Whether two vectors have the same clocks of the first nodes, so many of them, but for this one.
+pub fn is_same_but(a: &PackedVector, b: &PackedVector, node: usize, nodes: usize) -> bool
+    ensures { IsTrue result → (n : ℕ) → n < nodes → (n ≡ node → ⊥) → clock_of a.now n ≡ clock_of b.now n }
+{
+    for n in 0..nodes {
+        if n != node && clock_at(a, n) != clock_at(b, n) {
+            return false;
+        }
+    }
+    true
 }

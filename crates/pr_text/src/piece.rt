@@ -1,5 +1,6 @@
 // One node's part of a vector's text.
-ghost use Rattle.std.specs.Prelude.{◌≡◌, ◌++◌, ◌∷◌, ◌<◌, [], IfOk, OnOk, decimal, cond};
+ghost use Rattle.pr_text.specs.Texts.{part};
+ghost use Rattle.std.specs.Prelude.{◌≡◌, ◌++◌, ◌∷◌, ◌<◌, [], IfOk, IfSome, OnOk, decimal, cond, length};
 
 use crate::vector::push_clock;
 use pr_script::Bytes;
@@ -53,6 +54,30 @@ impl Piece {
             text.extend(kept)
         } else {
             text.extend(&kept[1..])
+        }
+    }
+
+    // How long the clock's text is behind a comma, where that is known without making it. That of 0 is none.
+    pub fn len_of(&self, clock: u64) -> Option<usize>
+        ensures { IfSome result (λ len. len ≡ length (part self.now clock)) }
+    {
+        if clock == 0 {
+            Some(0)
+        } else if clock == self.clock {
+            Some(self.text.len())
+        } else {
+            None
+        }
+    }
+
+    // Adds the clock's text behind a comma, or nothing for 0.
+    pub fn push_part(&self, clock: u64, text: &mut Bytes) -> Result<(), NoMemory>
+        ensures { OnOk result (text.new ≡ text.old ++ part self.now clock) }
+    {
+        if clock == 0 {
+            Ok(())
+        } else {
+            self.push(true, clock, text)
         }
     }
 

@@ -1,6 +1,6 @@
 // The nodes' parts of a vector's text.
-ghost use Rattle.pr_text.specs.Texts.{clocks, listed};
-ghost use Rattle.std.specs.Prelude.{◌≡◌, ◌++◌, IfOk, OnOk};
+ghost use Rattle.pr_text.specs.Texts.{clocks, listed, more};
+ghost use Rattle.std.specs.Prelude.{◌≡◌, ◌≤◌, ◌++◌, IfOk, IfSome, OnOk, length, take};
 
 use crate::packed::clock_at;
 use crate::piece::Piece;
@@ -43,6 +43,31 @@ pub fn push_pieces(
     push_hyphen(some, text)
 }
 
+/// Adds each clock of the vector over these nodes behind a comma, in one pass over them.
+pub fn push_parts(pieces: &[Piece], vector: &PackedVector, text: &mut Bytes) -> Result<(), NoMemory>
+    ensures { OnOk result (text.new ≡ text.old ++ more 44 (clocks pieces.now 0 vector.now)) }
+{
+    let mut node = 0usize;
+    for piece in pieces {
+        piece.push_part(clock_at(vector, node), text)?;
+        node += 1;
+    }
+    Ok(())
+}
+
+/// How long the text is that `push_parts` adds for the nodes below this one, where the texts of their clocks are kept.
+pub fn start_of(pieces: &[Piece], vector: &PackedVector, node: usize) -> Option<usize>
+    requires { node ≤ length pieces.now }
+    ensures { IfSome result (λ start. start ≡ length (more 44 (clocks (take node pieces.now) 0 vector.now))) }
+{
+    let mut start = 0usize;
+    for below in 0..node {
+        let len = pieces[below].len_of(clock_at(vector, below))?;
+        start = start.checked_add(len)?;
+    }
+    Some(start)
+}
+
 /// Keeps the clocks of a vector that are not 0, in one pass over the nodes. It takes memory only where a clock has more
 /// digits than its node's had before.
 pub fn keep_pieces(pieces: &mut [Piece], vector: &PackedVector) -> Result<(), NoMemory>
@@ -54,7 +79,8 @@ pub fn keep_pieces(pieces: &mut [Piece], vector: &PackedVector) -> Result<(), No
     Ok(())
 }
 
-fn keep_piece(piece: &mut Piece, clock: u64) -> Result<(), NoMemory>
+/// Keeps the clock of one node, unless it is 0.
+pub fn keep_piece(piece: &mut Piece, clock: u64) -> Result<(), NoMemory>
     ensures { piece.new ≡ piece.old }
 {
     if clock > 0 { piece.keep(clock) } else { Ok(()) }

@@ -1,18 +1,19 @@
 // A vector's text that may come again.
-ghost use Rattle.pr_text.specs.Kept.{IsTextOf};
-ghost use Rattle.pr_text.specs.Texts.{clocks, listed};
-ghost use Rattle.std.specs.Prelude.{◌≡◌, [], ℕ, IfSome, List};
+ghost use Rattle.pr_text.specs.Kept.{IsBut, IsTextOf};
+ghost use Rattle.pr_text.specs.Texts.{clocks, listed, part};
+ghost use Rattle.pr_vectors.specs.Vector.{clock_of};
+ghost use Rattle.std.specs.Prelude.{◌≡◌, ◌≤◌, ◌++◌, ◌⊎◌, [], ℕ, IfSome, List, OnErr, OnOk, drop, length, take};
 
-use crate::packed::clock_at;
+use crate::packed::{clock_at, is_same_but};
 use crate::piece::Piece;
-use crate::pieces::push_pieces;
+use crate::pieces::{keep_piece, keep_pieces, push_parts, start_of};
 use pr_script::Bytes;
 use pr_stamps::{NoMemory, Seq};
 use pr_vectors::PackedVector;
 use std::alloc::Global;
 
-// A vector and its text, which is empty where none is kept. Another vector mostly has another clock of this node, so that
-// is looked at first.
+// A vector and the text of its clocks, each behind a comma, which is empty where none is kept. Another vector mostly has
+// another clock of this node, so that is looked at first.
 #[derive(Drop)]
 pub struct VectorText {
     vector: PackedVector,
@@ -43,22 +44,26 @@ impl VectorText {
             return None;
         }
         if self.vector.is(vector) {
-            Some(self.text.as_slice())
+            Some(&self.text.as_slice()[1..])
         } else {
             None
         }
     }
 
-    // Keeps the vector's text in place of what was kept; the clock of this node tells it from others.
+    // Keeps the vector's text in place of what was kept, and of its clocks those that change. The text is that of the other
+    // but for the clock of this node, mostly, and else it is made anew.
     pub fn keep(
         &mut self,
         alloc: Global,
-        pieces: &[Piece],
+        pieces: &mut [Piece],
+        other: &VectorText,
         vector: &PackedVector,
         node: usize,
     ) -> Result<(), NoMemory>
-        requires { IsTextOf pieces.now self.old }
-        ensures { IsTextOf pieces.now self.new }
+        requires this { IsTextOf pieces.old self.old }
+        requires other { IsTextOf pieces.old other.now }
+        ensures pieces { pieces.new ≡ pieces.old }
+        ensures text { IsTextOf pieces.old self.new }
     {
         if self.of(vector).is_some() {
             return Ok(());
@@ -66,20 +71,95 @@ impl VectorText {
         self.text.truncate(0);
         self.node = node;
         self.vector = vector.copy(alloc)?;
-        self.fill(pieces)
+        match place_in(pieces, other, vector, node) {
+            Some((start, end)) => {
+                let clock = clock_at(vector, node);
+                keep_piece(&mut pieces[node], clock)?;
+                self.splice(&pieces[node], clock, other.text.as_slice(), start, end)
+            }
+            None => {
+                keep_pieces(pieces, vector)?;
+                self.fill(pieces)
+            }
+        }
     }
 
-    // Makes the vector's text. A refusal leaves none.
+    // Makes the vector's text.
     fn fill(&mut self, pieces: &[Piece]) -> Result<(), NoMemory>
         requires { self.old.text ≡ [] }
         ensures { IsTextOf pieces.now self.new }
     {
-        match push_pieces(pieces, &self.vector, &mut self.text) {
-            Ok(()) => Ok(()),
-            Err(_) => {
-                self.text.truncate(0);
-                Err(NoMemory)
-            }
+        let made = push_parts(pieces, &self.vector, &mut self.text);
+        self.end(made)
+    }
+
+    // Makes the text of the other, with this clock's part between the places.
+    fn splice(
+        &mut self,
+        piece: &Piece,
+        clock: u64,
+        other: &[u8],
+        start: usize,
+        end: usize,
+    ) -> Result<(), NoMemory>
+        requires none { self.old.text ≡ [] }
+        requires rises { start ≤ end }
+        requires inside { end ≤ length other.now }
+        ensures vector { self.new.vector ≡ self.old.vector }
+        ensures text { (self.new.text ≡ []) ⊎ (self.new.text ≡ take start other.now ++ (part piece.now clock ++ drop end other.now)) }
+    {
+        let made = spliced(piece, clock, other, start, end, &mut self.text);
+        self.end(made)
+    }
+
+    // A refusal leaves no text.
+    fn end(&mut self, made: Result<(), NoMemory>) -> Result<(), NoMemory>
+        ensures vector { self.new.vector ≡ self.old.vector }
+        ensures made { OnOk made (self.new.text ≡ self.old.text) }
+        ensures refused { OnErr made (self.new.text ≡ []) }
+    {
+        if made.is_err() {
+            self.text.truncate(0);
         }
+        made
+    }
+}
+
+fn spliced(
+    piece: &Piece,
+    clock: u64,
+    other: &[u8],
+    start: usize,
+    end: usize,
+    text: &mut Bytes,
+) -> Result<(), NoMemory>
+    requires rises { start ≤ end }
+    requires inside { end ≤ length other.now }
+    ensures { OnOk result (text.new ≡ text.old ++ (take start other.now ++ (part piece.now clock ++ drop end other.now))) }
+{
+    text.extend(&other[..start])?;
+    piece.push_part(clock, text)?;
+    text.extend(&other[end..])
+}
+
+// Where the node's part stands in the other text, if what is before and behind it is the vector's too.
+fn place_in(
+    pieces: &[Piece],
+    other: &VectorText,
+    vector: &PackedVector,
+    node: usize,
+) -> Option<(usize, usize)>
+    requires { IsTextOf pieces.now other.now }
+    ensures { IfSome result (λ p. IsBut pieces.now other.now.text vector.now node p.0 p.1) }
+{
+    if other.text.is_empty() || node >= pieces.len() {
+        return None;
+    }
+    let start = start_of(pieces, &other.vector, node)?;
+    let len = pieces[node].len_of(clock_at(&other.vector, node))?;
+    if is_same_but(&other.vector, vector, node, pieces.len()) {
+        Some((start, start.checked_add(len)?))
+    } else {
+        None
     }
 }
