@@ -1,5 +1,7 @@
 -- Clocks of one node that are told for one set.
-use Rattle.std.proofs.Common.{◌≡◌, ℕ, ◌≤◌, ◌<◌, ◌+◌, List, arith, inl, inr}
+use Rattle.std.proofs.Common.{◌≡◌, ℕ, ◌≤◌, ◌<◌, ◌+◌, List, [], length, get_or, set, ap, sym, subst, ◌∙◌, arith, inl, inr}
+use Rattle.std.proofs.lemmas.Bool.{cases_lt}
+use Rattle.std.proofs.lemmas.List.{get_or_default, get_or-set_same, get_or-set_other}
 use Rattle.std.specs.Prelude.{◌⊎◌, ◌↔◌}
 use Rattle.pr_vectors.specs.Vector.{clock_of}
 use Rattle.pr_gaps.specs.Ranges.{HasClock}
@@ -22,3 +24,22 @@ node_same from to n le was c = ((λ has. inl has), (λ either. elim either [ inl
 -- the node has no point at all, and stays as it was
 pub rest_same : (from to : List ℕ) (n : ℕ) (now was : List (ℕ × ℕ)) → clock_of to n ≡ 0 → now ≡ was → IsNodeCovered from to n now was
 rest_same from to n now was none e = rw e (node_same from to n (omega (arith, none)) was)
+
+-- one node alone has points between, and the others stay as they were
+pub one_covered : (from to : List ℕ) (items : List (List (ℕ × ℕ))) (n : ℕ) (old new : List (ℕ × ℕ)) → n < length items → old ≡ get_or items n old → IsNodeCovered from to n new old → ((k : ℕ) → k < 32 → clock_of from k < clock_of to k → k ≡ n) → (k : ℕ) → k < 32 → IsNodeCovered from to k (get_or (set items n new) k []) (get_or items k [])
+one_covered from to items n old new within is covered alone k lt = elim (cases_lt k n) [
+  | inl less ↦ other (λ e. omega (arith, less, e))
+  | inr ge ↦ elim (cases_lt n k) [ inl more ↦ other (λ e. omega (arith, more, e)) | inr le ↦ same (omega (arith, ge, le)) ]
+]
+  where
+    other : (k ≡ n → ⊥) → IsNodeCovered from to k (get_or (set items n new) k []) (get_or items k [])
+    other apart = rw (get_or-set_other items n k new [] apart) (elim (cases_lt (clock_of from k) (clock_of to k)) [
+      | inl rises ↦ absurd (apart (alone k lt rises))
+      | inr le ↦ node_same from to k le (get_or items k [])
+    ])
+
+    same : k ≡ n → IsNodeCovered from to k (get_or (set items n new) k []) (get_or items k [])
+    same e =
+        let now : get_or (set items n new) k [] ≡ new = ap (λ i. get_or (set items n new) i []) e ∙ get_or-set_same items n new [] within in
+        let was : get_or items k [] ≡ old = ap (λ i. get_or items i []) e ∙ get_or_default items n [] old within ∙ sym is in
+        rw (now, was) (subst (λ m. IsNodeCovered from to m new old) (sym e) covered)

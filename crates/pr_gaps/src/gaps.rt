@@ -2,18 +2,18 @@
 ghost use Rattle.pr_gaps.specs.Gaps.{IsCovered, IsLastPrecise, IsLeastUntold, IsNew, IsOwnTold, IsTargeted, IsLeastOutside, IsLesser, IsNodeOutside, IsToldIn, set_at};
 ghost use Rattle.pr_vectors.specs.UpTo.{IsLastClock};
 ghost use Rattle.pr_sets.specs.Sets.{rest_of, set_of};
-ghost use Rattle.pr_gaps.specs.Rows.{HasPoint};
+ghost use Rattle.pr_gaps.specs.Rows.{HasPoint, IsRowCovered};
 ghost use Rattle.pr_stamps.specs.Point.{Point};
 ghost use Rattle.pr_names.specs.Name.{IsName};
 ghost use Rattle.pr_sets.specs.Spans.{Meet, has};
 ghost use Rattle.pr_vectors.specs.Vector.{Between, IsVector, Le, clock_of, raised};
-ghost use Rattle.std.specs.Prelude.{◌≡◌, ◌≤◌, ◌<◌, ◌+◌, ◌⊎◌, ◌↔◌, ℕ, List, [], length, slice_index_or, true, false, IfOk, IsErr, OnErr, OnOk};
+ghost use Rattle.std.specs.Prelude.{◌≡◌, ◌≤◌, ◌<◌, ◌+◌, ◌⊎◌, ◌↔◌, ℕ, List, [], length, slice_index_or, true, false, IfOk, IfSome, IsErr, OnErr, OnOk};
 
 use crate::row::Row;
 use pr_names::Name;
 use pr_sets::NameSet;
 use pr_stamps::{NoMemory, Seq, Stamp};
-use pr_vectors::Vector;
+use pr_vectors::{Vector, only_between};
 use std::alloc::Global;
 use std::marker::Model;
 
@@ -266,28 +266,52 @@ fn cover_rows(
     ensures len { length rows.new.items ≡ length rows.old.items }
     ensures told { OnOk result ((i : ℕ) → i < length rows.old.items → IsTargeted from.now to.now target.now sets.now rest.now i (slice_index_or rows.new.items i []) (slice_index_or rows.old.items i [])) }
 {
+    let only = only_between(from, to);
     for index in 0..rows.len() {
         let set = nth(sets, rest, index);
         let row = &mut rows[index];
-        cover_row(row, set, from, to, target)?;
+        cover_row(row, set, from, to, only, target)?;
     }
     Ok(())
 }
 
+// The points between the vectors, which only this node has, if it is given, are told, unless the target meets the set.
 fn cover_row(
     row: &mut Row,
     set: &NameSet,
     from: &Vector,
     to: &Vector,
+    only: Option<u32>,
     target: &NameSet,
 ) -> Result<(), NoMemory>
+    requires range { IfSome only (λ n. n < 32) }
+    requires rises { IfSome only (λ n. clock_of from.now n < clock_of to.now n) }
+    requires alone { IfSome only (λ n. (k : ℕ) → k < 32 → clock_of from.now k < clock_of to.now k → k ≡ n) }
     ensures { OnOk result ((p : Point) → p.node < 32 → HasPoint row.new p ↔ (HasPoint row.old p ⊎ (Between from.now to.now p × ¬ Meet (has target.now) (has set.now)))) }
 {
     if target.meets(set) {
         return Ok(());
     }
-    row.cover(from, to)?;
+    cover_between(row, from, to, only)?;
     Ok(())
+}
+
+// The points between the vectors are told, which only this node has, if it is given.
+fn cover_between(
+    row: &mut Row,
+    from: &Vector,
+    to: &Vector,
+    only: Option<u32>,
+) -> Result<(), NoMemory>
+    requires range { IfSome only (λ n. n < 32) }
+    requires rises { IfSome only (λ n. clock_of from.now n < clock_of to.now n) }
+    requires alone { IfSome only (λ n. (k : ℕ) → k < 32 → clock_of from.now k < clock_of to.now k → k ≡ n) }
+    ensures { OnOk result (IsRowCovered row.old row.new from.now to.now) }
+{
+    match only {
+        Some(node) => row.cover_one(node, from, to),
+        None => row.cover(from, to),
+    }
 }
 
 // The names that are in none of the sets.

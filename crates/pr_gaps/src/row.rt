@@ -2,7 +2,7 @@
 ghost use Rattle.pr_gaps.specs.Rows.{HasPoint, IsRowCovered, clocks_at};
 ghost use Rattle.pr_gaps.specs.Ranges.{HasClock};
 ghost use Rattle.pr_stamps.specs.Point.{Point};
-ghost use Rattle.pr_vectors.specs.Vector.{Le};
+ghost use Rattle.pr_vectors.specs.Vector.{clock_of};
 ghost use Rattle.std.specs.Prelude.{◌≡◌, ◌≤◌, ◌<◌, ◌+◌, ◌⊎◌, ◌↔◌, ℕ, IfOk, OnOk};
 
 use crate::ranges::Ranges;
@@ -49,6 +49,18 @@ impl Row {
                 clocks.add(from + 1, to)?;
             }
         }
+        Ok(())
+    }
+
+    // The same, where this node alone has points between the vectors. It looks at no other.
+    pub fn cover_one(&mut self, node: u32, from: &Vector, to: &Vector) -> Result<(), NoMemory>
+        requires node { node < 32 }
+        requires rises { clock_of from.now node < clock_of to.now node }
+        requires alone { (k : ℕ) → k < 32 → clock_of from.now k < clock_of to.now k → k ≡ node }
+        ensures { OnOk result (IsRowCovered self.old self.new from.now to.now) }
+    {
+        let clocks = &mut self.clocks[node as usize];
+        clocks.add(from.at(node) + 1, to.at(node))?;
         Ok(())
     }
 

@@ -5,6 +5,7 @@ pub mod Stamped
 pub mod Names
 pub mod Standing
 pub mod Turns
+pub mod Tails
 pub mod Merge
 pub mod Lit
 pub mod Omitted

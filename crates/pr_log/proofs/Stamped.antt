@@ -179,3 +179,19 @@ forgotten_within a b cut n len_b each within p x is = elim (less_or p.node 32) [
   ]
   | inr past ↦ absurd (some_none x (sym is ∙ ap (λ (l : List (ℕ × WriteRec)). at_clock l p.clock) (past_end b p.node [] (omega (arith, len_b, past)))))
 ]
+
+-- ---- behind the last node that wrote
+
+none_behind : (rows : List (List (ℕ × WriteRec))) (nodes n k : ℕ) → IsWithin nodes rows → nodes ≤ n → at_clock (row_of rows n) k ≡ None
+none_behind rows nodes n k within le = none (at_clock (row_of rows n) k) refl
+  where
+    none : (r : Option WriteRec) → at_clock (row_of rows n) k ≡ r → at_clock (row_of rows n) k ≡ None
+    none None e = e
+    none (Some x) e = absurd (omega (arith, le, within (record { clock = k; node = n }) x e))
+
+pub none_forgotten : (rows : List (List (ℕ × WriteRec))) (nodes n c : ℕ) → IsWithin nodes rows → nodes ≤ n → IsForgottenUpTo c (row_of rows n) (row_of rows n)
+none_forgotten rows nodes n c within le = record {
+  gone = λ k up. none_behind rows nodes n k within le;
+  kept = λ k above. refl;
+  few = λ k. omega arith;
+}

@@ -1,4 +1,5 @@
 pub mod Sets
+pub mod Tail
 pub mod Many
 pub mod Dark
 pub mod Known

@@ -112,7 +112,7 @@ fn forget_rows(rows: &mut Vec<Segments>, cut: &Vector)
     ensures len { length rows.new.items ≡ 32 }
     ensures each { (n : ℕ) → n < 32 → (o : List ℕ) (c : ℕ) → clock_of cut.now n < c → is_lit_at (sets_of rows.new.items n) o c ≡ is_lit_at (sets_of rows.old.items n) o c }
 {
-    for n in 0..NODES {
+    for n in 0..cut.nodes() {
         let row = &mut rows[n as usize];
         row.forget(cut.at(n));
     }

@@ -1,6 +1,6 @@
 //! The known writes of a log.
 ghost use Rattle.pr_log.specs.Sets.{is_gathered};
-ghost use Rattle.pr_log.specs.Known.{Has, IsAdded, IsByStamp, IsFirstAbove, IsForgotten, IsForgottenUpTo, IsOmittedBetween, IsOmittedOf, IsWaiting, uncovered};
+ghost use Rattle.pr_log.specs.Known.{Has, IsAdded, IsByStamp, IsFirstAbove, IsForgotten, IsForgottenUpTo, IsOmittedBetween, IsOmittedOf, IsWaiting, IsWithin, uncovered};
 ghost use Rattle.pr_log.specs.Latest.{WroteAbove};
 ghost use Rattle.pr_log.specs.Many.{IsSetWithin};
 ghost use Rattle.pr_names.specs.Name.{IsName};
@@ -9,14 +9,13 @@ ghost use Rattle.pr_inval.specs.declared.write_rec.WriteRec.{WriteRec};
 ghost use Rattle.pr_vectors.specs.Vector.{clock_of};
 ghost use Rattle.std.specs.Prelude.{◌≡◌, ◌≤◌, ◌<◌, ◌+◌, ◌⊎◌, ◌↔◌, ℕ, List, [], length, slice_index_or, IfNone, IfOk, IfSome, IsTrue, OnErr, OnOk, Some, false, option_copied};
 
-use crate::between::only_between;
 use crate::collector::Collector;
 use crate::writes::Writes;
 use crate::{Near, Steps};
 use pr_inval::WriteRec;
 use pr_sets::NameSet;
 use pr_stamps::{NODES, NoMemory};
-use pr_vectors::Vector;
+use pr_vectors::{Vector, only_between};
 use std::alloc::Global;
 use std::marker::Model;
 use std::sync::ledger::Ledger;
@@ -68,7 +67,7 @@ impl Index {
         ensures forgotten { IsForgotten self.old self.new cut.now }
         ensures few { (pos : List ℕ) → uncovered self.new pos ≤ uncovered self.old pos }
     {
-        forget(&mut self.rows, cut);
+        forget(&mut self.rows, self.nodes, cut);
     }
 
     /// How many nodes there are up to the last that has known writes, or had some, in constant time.
@@ -315,12 +314,15 @@ fn rows(alloc: Global) -> Result<Vec<Writes>, NoMemory>
     Ok(rows)
 }
 
-fn forget(rows: &mut Vec<Writes>, cut: &Vector)
-    requires { length rows.old.items ≡ 32 }
+// Of the first so many nodes, behind which none wrote.
+fn forget(rows: &mut Vec<Writes>, nodes: u32, cut: &Vector)
+    requires len { length rows.old.items ≡ 32 }
+    requires most { nodes ≤ 32 }
+    requires within { IsWithin nodes rows.old.items }
     ensures len { length rows.new.items ≡ 32 }
     ensures each { (n : ℕ) → n < 32 → IsForgottenUpTo (clock_of cut.now n) (slice_index_or rows.old.items n []) (slice_index_or rows.new.items n []) }
 {
-    for n in 0..NODES {
+    for n in 0..nodes {
         let row = &mut rows[n as usize];
         row.forget(cut.at(n));
     }

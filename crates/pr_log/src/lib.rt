@@ -1,7 +1,7 @@
 //! The causal log of a node: which names are dark at which points, and the writes that are known.
 #![tactic(auto)]
 
-mod between;
+mod beginnings;
 mod by_clock;
 mod collector;
 mod dark;
@@ -11,6 +11,7 @@ mod log;
 mod near;
 mod segments;
 mod steps;
+mod tail;
 #[cfg(test)]
 mod tests;
 mod waiting;

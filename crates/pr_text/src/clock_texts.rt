@@ -92,7 +92,10 @@ impl ClockTexts {
     fn kept(&self, vector: &PackedVector) -> Option<&[u8]>
         ensures { IfSome result (λ kept. kept.now ≡ listed (clocks self.now 0 vector.now)) }
     {
-        self.to.of(vector).or(self.from.of(vector))
+        match self.to.of(vector) {
+            Some(kept) => Some(kept),
+            None => self.from.of(vector),
+        }
     }
 
     // Keeps where a sent message starts and ends: the vectors of its line, and most of those of the lines to come.

@@ -6,8 +6,8 @@ returns-then-meets c p lt = ((λ has. inl has), (λ either. elim either [ inl ol
 
 pub returns : goal.returns
 returns c p lt = (
-  (λ has. elim ((c.in_ok-cover.ensures p lt).0 has) [ inl old ↦ inl old | inr new ↦ inr (new, λ m. apart (sym (c.meets.ensures.1 m) ∙ c.if-meets.false)) ]),
-  (λ either. (c.in_ok-cover.ensures p lt).1 (elim either [ inl old ↦ inl old | inr new ↦ inr new.0 ])),
+  (λ has. elim ((c.in_ok-cover_between.ensures p lt).0 has) [ inl old ↦ inl old | inr new ↦ inr (new, λ m. apart (sym (c.meets.ensures.1 m) ∙ c.if-meets.false)) ]),
+  (λ either. (c.in_ok-cover_between.ensures p lt).1 (elim either [ inl old ↦ inl old | inr new ↦ inr new.0 ])),
 )
   where
     apart : true ≡ false → ⊥
