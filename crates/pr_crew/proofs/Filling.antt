@@ -3,13 +3,14 @@ use Rattle.std.proofs.Common.{◌≡◌, ◌<◌, ◌≤◌, ◌+◌, ◌*◌, �
 use Rattle.std.specs.Prelude.{Vec, drop, reverse, slice_get, sum_by, take, vec_capacity}
 use Rattle.std.specs.List.{range_with_len}
 use Rattle.std.proofs.Math.Seq.{get_or-append_seam}
-use Rattle.std.proofs.lemmas.List.{get_or_append_left, length-append, length-reverse, map-append, reverse-append, reverse-reverse, take_all}
+use Rattle.std.proofs.lemmas.List.{get_or-drop, length-drop, get_or_append_left, length-append, length-reverse, map-append, reverse-append, reverse-reverse, take_all}
 use Rattle.std.proofs.lemmas.Option.{same_Some}
 use Rattle.pr_merge.proofs.Times.{less_or}
 use Rattle.pr_merge.specs.Holding.{HeldState}
 use Rattle.pr_node.specs.Stored.{Stored, means}
 use Rattle.pr_stamps.specs.Kept.{Kept}
 use Rattle.pr_story.specs.declared.entry.Entry.{Entry}
+use Rattle.pr_story.proofs.NewestFirst.{with_next}
 use Rattle.pr_story.specs.History.{NodeEntry, Plan, journal}
 use Rattle.pr_crew.specs.declared.room.Room.{Room}
 use Rattle.pr_crew.specs.declared.work.Work.{Work}
@@ -41,6 +42,13 @@ mapped_more f xs i x is = sym (ap (λ l. map f l) (take_push xs i x is) ∙ map-
 
 pub mapped_all : {X Y : Type 0} (f : X → Y) (xs : List X) (i : ℕ) (ys : List Y) → ys ≡ map f (take i xs) → length xs ≤ i → ys ≡ map f xs
 mapped_all f xs i ys is all = is ∙ ap (λ l. map f l) (take_all i xs all)
+
+-- the time of one entry more behind the first ones
+pub times_more : (xs : List Entry) (from at : ℕ) (e : Entry) (times : List ℕ) → from + at < length xs → e ≡ get_or xs (from + at) e → times ≡ map (λ (x : Entry). x.time) (take at (drop from xs)) → times ++ e.time ∷ [] ≡ map (λ (x : Entry). x.time) (take (at + 1) (drop from xs))
+times_more xs from at e times some is sofar =
+    let within : at < length (drop from xs) = omega (arith, some, length-drop from xs) in
+    let here : e ≡ get_or (drop from xs) at e = is ∙ sym (get_or-drop from xs at e) in
+    ap (λ l. l ++ e.time ∷ []) sofar ∙ sym (map-append (λ (x : Entry). x.time) (take at (drop from xs)) (e ∷ [])) ∙ ap (λ l. map (λ (x : Entry). x.time) l) (with_next (λ l. take at (drop from xs) ++ e ∷ [] ≡ l) (drop from xs) at e within here refl)
 
 -- ---- how many entries there can be
 

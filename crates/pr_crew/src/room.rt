@@ -15,7 +15,7 @@ use crate::work::Work;
 use pr_merge::{Held, merge};
 use pr_node::Node;
 use pr_stamps::{NoMemory, Roomy, Seq};
-use pr_story::Entry;
+use pr_story::Journal;
 use std::alloc::Global;
 use std::mem;
 
@@ -165,27 +165,20 @@ fn times_since<H: Held<Node = Node>>(
     ensures fits { (before made : List Entry) → IsBehind before made node opened (H.state held.now) → opened + length made < 2 ^ 64 }
 {
     match held.journal(node) {
-        Some(journal) => times_of(since(journal.entries(), opened), times),
+        Some(journal) => times_behind(journal, opened, times),
         None => unreachable!(),
     }
 }
 
-// The entries from this place on.
-fn since(entries: &[Entry], opened: usize) -> &[Entry]
-    requires { opened ≤ length entries.now }
-    ensures rest { result.now ≡ drop opened entries.now }
-    ensures fits { length entries.now < 2 ^ 64 }
+// The times of the entries behind so many, in a list that has room for them.
+fn times_behind(journal: &Journal, opened: usize, mut times: Vec<u64>) -> Vec<u64>
+    requires opened { opened ≤ length journal.now.items }
+    requires places { HasPlacesFor (drop opened journal.now.items) times }
+    ensures times { result.items ≡ map (λ (e : Entry). e.time) (drop opened journal.now.items) }
+    ensures fits { length journal.now.items < 2 ^ 64 }
 {
-    &entries[opened..]
-}
-
-// The times of the entries, in a list that has room for them.
-fn times_of(entries: &[Entry], mut times: Vec<u64>) -> Vec<u64>
-    requires { HasPlacesFor entries.now times }
-    ensures { result.items ≡ map (λ (e : Entry). e.time) entries.now }
-{
-    for entry in entries {
-        times.push_reserved(entry.time);
+    for at in 0..journal.len() - opened {
+        times.push_reserved(journal.entry(opened + at).time);
     }
     times
 }

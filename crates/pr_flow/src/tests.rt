@@ -218,10 +218,10 @@ fn letter(event: &Event) -> u8 {
 
 // Whether these are the kinds of the side's events.
 fn has_made(side: &Small, letters: &[u8]) -> bool {
-    let entries = side.journal.entries();
-    let mut same = entries.len() == letters.len();
-    for (entry, wanted) in entries.iter().zip(letters) {
-        if letter(&entry.event) != *wanted {
+    let journal = &side.journal;
+    let mut same = journal.len() == letters.len();
+    for (place, wanted) in (0..journal.len()).zip(letters) {
+        if letter(&journal.entry(place).event) != *wanted {
             same = false;
         }
     }

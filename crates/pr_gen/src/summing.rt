@@ -3,7 +3,7 @@ ghost use Rattle.pr_gen.specs.Summary.{count_line, count_of, is_counted, node_co
 ghost use Rattle.pr_gen.specs.declared.counted.Counted.TheVariants.{Writes};
 ghost use Rattle.pr_merge.specs.Holding.{HasHistory};
 ghost use Rattle.pr_script.specs.declared.kind.Kind.TheVariants as kinds;
-ghost use Rattle.pr_story.specs.History.{NodeEntry};
+ghost use Rattle.pr_story.specs.History.{NodeEntry, current_vector};
 ghost use Rattle.std.specs.List.{flat_map, range_with_len};
 ghost use Rattle.std.specs.Prelude.{◌≡◌, ◌<◌, ◌≤◌, ◌+◌, ◌^◌, ◌++◌, ℕ, List, OnOk, cond, get_or, length, reverse};
 
@@ -11,9 +11,10 @@ use crate::counted::{Counted, WORDS, span};
 use pr_merge::{Held, entry_at};
 use pr_script::{Bytes, Decl, Decls, Kind, is_kind};
 use pr_stamps::NoMemory;
-use pr_story::Event;
-use pr_story::plain::current_vector;
+use pr_story::plain::vector_after;
+use pr_story::{Event, Journal};
 use pr_text::{ok, push_about, push_number, push_vector};
+use pr_vectors::Vector;
 
 /// Adds the summary of a run of these declarations: a line for each kind of event with how many there are, a line for
 /// each node with its vector, and `ok N` for N entries (docs/TRANSCRIPT.md). It reads the history once, and then each
@@ -95,6 +96,17 @@ fn nodes_of(decls: &[Decl]) -> usize
     nodes
 }
 
+// The vector of the node that did this. One pass.
+fn vector_of(journal: &Journal) -> Vector
+    ensures { result ≡ current_vector (reverse journal.now.items) }
+{
+    let mut vector = Vector::zero();
+    for place in 0..journal.len() {
+        vector = vector_after(journal.entry(place), &vector);
+    }
+    vector
+}
+
 fn push_node<H: Held>(decls: &Decls, held: &H, node: u32, out: &mut Bytes) -> Result<(), NoMemory>
     requires { (h : List NodeEntry) × HasHistory H.Node.journal h (H.state held.now) × (node < length (H.state held.now).nodes) }
     ensures { (h : List NodeEntry) → HasHistory H.Node.journal h (H.state held.now) → OnOk result (out.new ≡ out.old ++ vector_line decls.now.list h node) }
@@ -104,7 +116,7 @@ fn push_node<H: Held>(decls: &Decls, held: &H, node: u32, out: &mut Bytes) -> Re
         Some(journal) => {
             push_about(b"vector", decls, Kind::Node, node, out)?;
             out.push(b' ')?;
-            push_vector(decls, &current_vector(journal.entries()), out)?;
+            push_vector(decls, &vector_of(journal), out)?;
             out.push(b'\n')
         }
     }

@@ -119,5 +119,5 @@ fn entry_in(journal: &Journal, place: usize) -> &Entry
     requires { place < length journal.now.items }
     ensures { (e : Entry) → result.now ≡ get_or journal.now.items place e }
 {
-    &journal.entries()[place]
+    journal.entry(place)
 }

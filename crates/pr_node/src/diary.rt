@@ -54,7 +54,7 @@ impl Diary {
         ensures items { result.entries.items ≡ journal.items }
         ensures works { result.spent ≡ false }
     {
-        let last = last_of(journal.entries());
+        let last = last_of(&journal);
         Diary {
             alloc,
             journal,
@@ -297,10 +297,10 @@ impl Diary {
 }
 
 // The time of the last entry, or 0 where there is none.
-fn last_of(entries: &[Entry]) -> u64
-    ensures { result ≡ last_time (reverse entries.now) }
+fn last_of(journal: &Journal) -> u64
+    ensures { result ≡ last_time (reverse journal.now.items) }
 {
-    match entries.last() {
+    match journal.last() {
         Some(entry) => entry.time,
         None => 0,
     }

@@ -8,21 +8,21 @@ use crate::Scan;
 use pr_inval::{Kind, Row, Session};
 use pr_sets::NameSet;
 use pr_stamps::NoMemory;
-use pr_story::{Entry, Event};
+use pr_story::{Entry, Event, Journal};
 
 // The scan looks at the entries that it has not looked at.
-pub fn catch_up(scan: &mut Scan, entries: &[Entry], session: &Session) -> Result<(), NoMemory>
-    requires scan { IsScanOf scan.old (means session.now).standing (reverse entries.now) }
-    ensures scan { IsScanOf scan.new (means session.now).standing (reverse entries.now) }
-    ensures looked { OnOk result (scan.new.looked ≡ length entries.now) }
+pub fn catch_up(scan: &mut Scan, journal: &Journal, session: &Session) -> Result<(), NoMemory>
+    requires scan { IsScanOf scan.old (means session.now).standing (reverse journal.now.items) }
+    ensures scan { IsScanOf scan.new (means session.now).standing (reverse journal.now.items) }
+    ensures looked { OnOk result (scan.new.looked ≡ length journal.now.items) }
 {
     if scan.last().is_none() {
-        scan.has_looked(entries.len());
+        scan.has_looked(journal.len());
         return Ok(());
     }
-    while scan.looked() < entries.len() {
+    while scan.looked() < journal.len() {
         let looked = scan.looked();
-        look_at(scan, &entries[looked], session.sub())?;
+        look_at(scan, journal.entry(looked), session.sub())?;
         scan.has_looked(looked + 1);
     }
     Ok(())

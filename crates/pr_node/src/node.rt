@@ -94,7 +94,7 @@ impl Node {
         requires told { IsOfNode id (reverse journal.items) }
         ensures { IfOk result (λ node. means node ≡ record { id = id; sets = sets; journal = reverse journal.items; spent = false }) }
     {
-        let stores = rebuilt(alloc, id, sets, journal.entries())?;
+        let stores = rebuilt(alloc, id, sets, &journal)?;
         Ok(Node {
             alloc,
             id,

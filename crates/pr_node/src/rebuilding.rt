@@ -17,25 +17,25 @@ use pr_marks::Marks;
 use pr_names::Name;
 use pr_sets::NameSet;
 use pr_stamps::{NoMemory, Seq};
-use pr_story::{Entry, Event};
+use pr_story::{Event, Journal};
 use std::alloc::Global;
 
-// The stores after these entries, the oldest first.
+// The stores of a node that did this.
 pub fn rebuilt(
     alloc: Global,
     id: u32,
     sets: Seq<NameSet>,
-    entries: &[Entry],
+    journal: &Journal,
 ) -> Result<Stores, NoMemory>
     requires id { id < 32 }
     requires apart { AreApart sets }
-    requires told { IsOfNode id (reverse entries.now) }
-    ensures tied { IfOk result (λ stores. IsTied id (reverse entries.now) stores) }
+    requires told { IsOfNode id (reverse journal.now.items) }
+    ensures tied { IfOk result (λ stores. IsTied id (reverse journal.now.items) stores) }
     ensures sets { IfOk result (λ stores. stores.gaps.sets ≡ sets) }
 {
     let mut stores = fresh(alloc, id, sets)?;
-    for entry in entries {
-        tell(alloc, &mut stores, &entry.event)?;
+    for place in 0..journal.len() {
+        tell(alloc, &mut stores, &journal.entry(place).event)?;
     }
     Ok(stores)
 }

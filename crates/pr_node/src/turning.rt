@@ -17,47 +17,47 @@ use crate::waiting_bodies::next_body;
 use crate::{Scan, Stores, Turned};
 use pr_inval::{Kind, Msg, Session, Step};
 use pr_stamps::NoMemory;
-use pr_story::{Entry, Event};
+use pr_story::{Event, Journal};
 use pr_vectors::PackedVector;
 use std::alloc::Global;
 
-// The event of the turn of a stream with this session, at its source, where its node has made these entries. The session
+// The event of the turn of a stream with this session, at its source, where its node has done this. The session
 // has room to note it.
 pub fn next_turn(
     alloc: Global,
     stores: &Stores,
-    entries: &[Entry],
+    journal: &Journal,
     session: &mut Session,
     scan: &mut Scan,
     time: u64,
 ) -> Result<Event, NoMemory>
     requires later { (means session.old).standing.time < time }
     requires most { time ≤ 4611686018427387903 }
-    requires scan { IsScanOf scan.old (means session.old).standing (reverse entries.now) }
-    ensures next { IfOk result (λ event. (n : ℕ) → IsTied n (reverse entries.now) stores.now → IsNextTurn n (reverse entries.now) (means session.old) time event) }
-    ensures spelled { IfOk result (λ event. (n : ℕ) → IsTied n (reverse entries.now) stores.now → IsSendSpelled event) }
+    requires scan { IsScanOf scan.old (means session.old).standing (reverse journal.now.items) }
+    ensures next { IfOk result (λ event. (n : ℕ) → IsTied n (reverse journal.now.items) stores.now → IsNextTurn n (reverse journal.now.items) (means session.old) time event) }
+    ensures spelled { IfOk result (λ event. (n : ℕ) → IsTied n (reverse journal.now.items) stores.now → IsSendSpelled event) }
     ensures range { IfOk result IsInRange }
     ensures same { IsSameSession (means session.old) (means session.new) }
     ensures room { OnOk result (0 < (means session.new).room) }
-    ensures scan { (n : ℕ) → IsTied n (reverse entries.now) stores.now → IsScanOf scan.new (means session.new).standing (reverse entries.now) }
+    ensures scan { (n : ℕ) → IsTied n (reverse journal.now.items) stores.now → IsScanOf scan.new (means session.new).standing (reverse journal.now.items) }
 {
     let _ = session.number();
     session.room()?;
-    next_event(alloc, stores, entries, session, scan, time)
+    next_event(alloc, stores, journal, session, scan, time)
 }
 
 // The same, without a look at the room.
 fn next_event(
     alloc: Global,
     stores: &Stores,
-    entries: &[Entry],
+    journal: &Journal,
     session: &Session,
     scan: &mut Scan,
     time: u64,
 ) -> Result<Event, NoMemory>
-    requires scan { IsScanOf scan.old (means session.now).standing (reverse entries.now) }
-    ensures next { IfOk result (λ event. (n : ℕ) → IsTied n (reverse entries.now) stores.now → IsNextTurn n (reverse entries.now) (means session.now) time event) }
-    ensures scan { (n : ℕ) → IsTied n (reverse entries.now) stores.now → IsScanOf scan.new (means session.now).standing (reverse entries.now) }
+    requires scan { IsScanOf scan.old (means session.now).standing (reverse journal.now.items) }
+    ensures next { IfOk result (λ event. (n : ℕ) → IsTied n (reverse journal.now.items) stores.now → IsNextTurn n (reverse journal.now.items) (means session.now) time event) }
+    ensures scan { (n : ℕ) → IsTied n (reverse journal.now.items) stores.now → IsScanOf scan.new (means session.now).standing (reverse journal.now.items) }
     ensures range { IfOk result IsInRange }
 {
     let stream = session.stream();
@@ -79,7 +79,7 @@ fn next_event(
         );
     }
     if session.bodies() {
-        return send_body(alloc, stores, entries, session, scan, time);
+        return send_body(alloc, stores, journal, session, scan, time);
     }
     Ok(Event::Idle { stream })
 }
@@ -88,17 +88,17 @@ fn next_event(
 fn send_body(
     alloc: Global,
     stores: &Stores,
-    entries: &[Entry],
+    journal: &Journal,
     session: &Session,
     scan: &mut Scan,
     time: u64,
 ) -> Result<Event, NoMemory>
-    requires scan { IsScanOf scan.old (means session.now).standing (reverse entries.now) }
-    ensures next { IfOk result (λ event. (n : ℕ) → IsTied n (reverse entries.now) stores.now → IsBodyTurn (reverse entries.now) (means session.now) time event) }
-    ensures scan { (n : ℕ) → IsTied n (reverse entries.now) stores.now → IsScanOf scan.new (means session.now).standing (reverse entries.now) }
+    requires scan { IsScanOf scan.old (means session.now).standing (reverse journal.now.items) }
+    ensures next { IfOk result (λ event. (n : ℕ) → IsTied n (reverse journal.now.items) stores.now → IsBodyTurn (reverse journal.now.items) (means session.now) time event) }
+    ensures scan { (n : ℕ) → IsTied n (reverse journal.now.items) stores.now → IsScanOf scan.new (means session.now).standing (reverse journal.now.items) }
     ensures range { IfOk result IsInRange }
 {
-    match next_body(alloc, stores, entries, session, scan)? {
+    match next_body(alloc, stores, journal, session, scan)? {
         Some(kind) => Ok(Event::Sent {
             msg: message(session, kind, time),
         }),

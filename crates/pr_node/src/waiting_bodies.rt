@@ -15,7 +15,7 @@ use pr_inval::{Bytes, Kind, Session};
 use pr_names::Name;
 use pr_snap::next_known_in;
 use pr_stamps::{NoMemory, Seq, Stamp};
-use pr_story::Entry;
+use pr_story::Journal;
 use std::alloc::Global;
 
 // The body of the least name of the subscription whose newest write is held and was not sent, if there is one. It looks
@@ -23,16 +23,16 @@ use std::alloc::Global;
 pub fn next_body(
     alloc: Global,
     stores: &Stores,
-    entries: &[Entry],
+    journal: &Journal,
     session: &Session,
     scan: &mut Scan,
 ) -> Result<Option<Kind>, NoMemory>
-    requires scan { IsScanOf scan.old (means session.now).standing (reverse entries.now) }
-    ensures next { IfOk result (λ kind. (n : ℕ) → IsTied n (reverse entries.now) stores.now → IsNextBodyOf (reverse entries.now) (means session.now).standing kind) }
-    ensures scan { (n : ℕ) → IsTied n (reverse entries.now) stores.now → IsScanOf scan.new (means session.now).standing (reverse entries.now) }
+    requires scan { IsScanOf scan.old (means session.now).standing (reverse journal.now.items) }
+    ensures next { IfOk result (λ kind. (n : ℕ) → IsTied n (reverse journal.now.items) stores.now → IsNextBodyOf (reverse journal.now.items) (means session.now).standing kind) }
+    ensures scan { (n : ℕ) → IsTied n (reverse journal.now.items) stores.now → IsScanOf scan.new (means session.now).standing (reverse journal.now.items) }
     ensures range { IfOk result IsKindOrNone }
 {
-    catch_up(scan, entries, session)?;
+    catch_up(scan, journal, session)?;
     if let Some(kind) = waiting_body(alloc, stores, session, scan)? {
         return Ok(Some(kind));
     }

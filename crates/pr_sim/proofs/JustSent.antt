@@ -66,8 +66,8 @@ newest_last list j m is (e, older, first, event) =
       omega (arith, len),
     )
 
-pub told_last : (nodes : List (Option Stored)) (n : ℕ) (m : Stored) (msg : Msg) (list found : List Entry) → get_or nodes n None ≡ Some m → reverse list ≡ (means m).journal → found ≡ list → IsSentLast nodes n msg
-    → SendsAt found (length found - 1) msg × (1 ≤ length found)
-told_last nodes n m msg list found was is same last =
+pub told_last : (nodes : List (Option Stored)) (n : ℕ) (m : Stored) (msg : Msg) (list : List Entry) → get_or nodes n None ≡ Some m → reverse list ≡ (means m).journal → IsSentLast nodes n msg
+    → SendsAt list (length list - 1) msg × (1 ≤ length list)
+told_last nodes n m msg list was is last =
     let e : last.0 ≡ m = some_is last.0 m (get_or nodes n None) last.1 was in
-    newest_last found (means m).journal msg (ap (λ (l : List Entry). reverse l) same ∙ is) (subst (λ (y : Stored). SendsLast (means y).journal msg) e last.2)
+    newest_last list (means m).journal msg is (subst (λ (y : Stored). SendsLast (means y).journal msg) e last.2)

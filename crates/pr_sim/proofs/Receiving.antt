@@ -41,12 +41,11 @@ use Rattle.pr_sim.proofs.Scans.{attaches_with, scans_more}
 
 -- ---- what stands there
 
-pub told_at : (nodes : List (Option Stored)) (n : ℕ) (m : Stored) (place : ℕ) (msg : Msg) (list found : List Entry) → get_or nodes n None ≡ Some m → reverse list ≡ (means m).journal → found ≡ list
-    → IsSentAt nodes n place msg → SendsAt found place msg
-told_at nodes n m place msg list found was is same at =
+pub told_at : (nodes : List (Option Stored)) (n : ℕ) (m : Stored) (place : ℕ) (msg : Msg) (list : List Entry) → get_or nodes n None ≡ Some m → reverse list ≡ (means m).journal → IsSentAt nodes n place msg → SendsAt list place msg
+told_at nodes n m place msg list was is at =
     let e : at.0 ≡ m = some_is at.0 m (get_or nodes n None) at.1 was in
     let f : reverse (means m).journal ≡ list = ap (λ (xs : List Entry). reverse xs) (sym is) ∙ reverse-reverse list in
-    subst (λ (xs : List Entry). SendsAt xs place msg) (sym same) (subst (λ (xs : List Entry). SendsAt xs place msg) f (subst (λ (y : Stored). SendsAt (reverse (means y).journal) place msg) e at.2))
+    subst (λ (xs : List Entry). SendsAt xs place msg) f (subst (λ (y : Stored). SendsAt (reverse (means y).journal) place msg) e at.2)
 
 pub is_what : (a b : Msg) → b ≡ a → IsMessage a → IsMessage b
 is_what a b same good = subst (λ (m : Msg). IsMessage m) (sym same) good

@@ -8,7 +8,7 @@ ghost use Rattle.std.specs.Prelude.{◌≡◌, ◌<◌, IsTrue, length, reverse}
 
 use crate::engine::{Engine, node_at};
 use crate::slots::route;
-use pr_story::{Cause, Entry, Event};
+use pr_story::{Cause, Event, Journal};
 
 impl Engine {
     /// Whether the stream is attached.
@@ -34,7 +34,7 @@ impl Engine {
     {
         let attached = self.is_attached(stream);
         let node = node_at(&self.nodes, route(&self.routes, stream).destination);
-        let after = is_after_gap(node.journal().entries(), stream);
+        let after = is_after_gap(node.journal(), stream);
         attached && may_go_down(cause, after)
     }
 }
@@ -50,13 +50,13 @@ fn may_go_down(cause: Cause, after: bool) -> bool
 }
 
 // Whether the last of the entries that is the stream's is a gap.
-fn is_after_gap(entries: &[Entry], stream: u32) -> bool
-    ensures { result ≡ is_after_gap (reverse entries.now) stream }
+fn is_after_gap(journal: &Journal, stream: u32) -> bool
+    ensures { result ≡ is_after_gap (reverse journal.now.items) stream }
 {
-    let mut left = entries.len();
+    let mut left = journal.len();
     while left > 0 {
         left -= 1;
-        let event = &entries[left].event;
+        let event = &journal.entry(left).event;
         if is_of_stream(event, stream) {
             return is_gap(event);
         }

@@ -111,5 +111,5 @@ pub fn entry_at(node: &Node, place: usize) -> &Entry
     requires { place < length (means node.now).journal }
     ensures { (e : Entry) → result.now ≡ slice_index_or (reverse (means node.now).journal) place e }
 {
-    &node.journal().entries()[place]
+    node.journal().entry(place)
 }

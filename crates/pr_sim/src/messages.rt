@@ -10,7 +10,7 @@ use crate::engine::node_at;
 use pr_inval::Msg;
 use pr_node::Node;
 use pr_stamps::{NoMemory, Roomy};
-use pr_story::{Entry, Event};
+use pr_story::{Event, Journal};
 use pr_wire::through_bytes;
 use std::alloc::Global;
 
@@ -36,10 +36,7 @@ pub fn again(
     requires { (msg : Msg) × IsSentAt nodes.now.items node place msg × IsMessage msg }
     ensures { (msg : Msg) → IsSentAt nodes.now.items node place msg → IfOk result (λ m. m ≡ msg) }
 {
-    through_bytes(
-        alloc,
-        sent_at(node_at(nodes, node).journal().entries(), place),
-    )
+    through_bytes(alloc, sent_at(node_at(nodes, node).journal(), place))
 }
 
 // The message that the node's newest entry sends.
@@ -47,15 +44,15 @@ pub fn last_sent(nodes: &Vec<Option<Node>>, node: u32) -> &Msg
     requires { (msg : Msg) × IsSentLast nodes.now.items node msg }
     ensures { (msg : Msg) → IsSentLast nodes.now.items node msg → result.now ≡ msg }
 {
-    let entries = node_at(nodes, node).journal().entries();
-    sent_at(entries, entries.len() - 1)
+    let journal = node_at(nodes, node).journal();
+    sent_at(journal, journal.len() - 1)
 }
 
-fn sent_at(entries: &[Entry], place: usize) -> &Msg
-    requires { (msg : Msg) × SendsAt entries.now place msg }
-    ensures { (msg : Msg) → SendsAt entries.now place msg → result.now ≡ msg }
+fn sent_at(journal: &Journal, place: usize) -> &Msg
+    requires { (msg : Msg) × SendsAt journal.now.items place msg }
+    ensures { (msg : Msg) → SendsAt journal.now.items place msg → result.now ≡ msg }
 {
-    match &entries[place].event {
+    match &journal.entry(place).event {
         Event::Sent { msg } => msg,
         _ => unreachable!(),
     }

@@ -38,6 +38,7 @@ pub mod Marking
 pub mod Snapshots
 pub mod Starts
 pub mod Places
+pub mod Pages
 pub mod Reading
 pub mod Foreign
 pub mod Counts

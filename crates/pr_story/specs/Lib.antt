@@ -1,3 +1,5 @@
+-- a list in pages
+pub mod Paged
 -- what promises are made of
 pub mod History
 pub mod Told

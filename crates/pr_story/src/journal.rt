@@ -1,8 +1,10 @@
 // What a node has done.
-ghost use Rattle.std.specs.Prelude.{◌≡◌, ◌<◌, ◌≤◌, ◌+◌, [], ◌∷◌, ◌++◌, OnOk, OnErr, length};
+ghost use Rattle.std.specs.Prelude.{◌≡◌, ◌<◌, ◌≤◌, ◌+◌, [], ◌∷◌, ◌++◌, ◌-◌, List, MatchOption, OnOk, OnErr, get_or, length, reverse};
+ghost use Rattle.pr_story.specs.declared.entry.Entry.{Entry};
 
 use crate::Entry;
-use pr_stamps::{NoMemory, Roomy};
+use crate::paged::Paged;
+use pr_stamps::NoMemory;
 use std::alloc::Global;
 use std::marker::Model;
 
@@ -10,7 +12,7 @@ use std::marker::Model;
 /// can be added for certain. A node makes room before it makes an event, so that nothing can fail after it.
 #[derive(Drop)]
 pub struct Journal {
-    list: Roomy<Entry>,
+    list: Paged<Entry>,
 }
 
 impl Model for Journal {
@@ -28,17 +30,17 @@ impl Journal {
         ensures { result.items ≡ [] }
     {
         Journal {
-            list: Roomy::new(alloc),
+            list: Paged::new(alloc),
         }
     }
 
-    /// Makes room for one entry, in amortised constant time. A refusal changes nothing.
+    /// Makes room for one entry, in constant time but for a page of 256 entries that it takes. A refusal changes nothing.
     pub fn reserve(&mut self) -> Result<(), NoMemory>
         ensures ok { OnOk result (0 < self.new.room) }
         ensures err { OnErr result (self.new ≡ self.old) }
         ensures items { self.new.items ≡ self.old.items }
     {
-        self.list.reserve(1)
+        self.list.reserve()
     }
 
     /// Adds an entry at a place that was kept, in constant time and without taking memory.
@@ -56,10 +58,22 @@ impl Journal {
         self.list.len()
     }
 
-    /// The entries, the oldest first.
-    pub fn entries(&self) -> &[Entry]
-        ensures { result.now ≡ self.now.items }
+    /// The entry at this place, the oldest being at 0, in constant time.
+    pub fn entry(&self, place: usize) -> &Entry
+        requires { place < length self.now.items }
+        ensures { (e : Entry) → result.now ≡ get_or self.now.items place e }
     {
-        self.list.as_slice()
+        self.list.get(place)
+    }
+
+    /// The newest entry, in constant time.
+    pub fn last(&self) -> Option<&Entry>
+        ensures { MatchOption result (self.now.items ≡ []) (λ e. (older : List Entry) × (reverse self.now.items ≡ e.now ∷ older)) }
+    {
+        let len = self.len();
+        if len == 0 {
+            return None;
+        }
+        Some(self.entry(len - 1))
     }
 }

@@ -8,6 +8,7 @@ mod found;
 mod journal;
 mod journaled;
 mod law;
+mod paged;
 pub mod plain;
 mod reply;
 #[cfg(test)]

@@ -34,7 +34,7 @@ pub use snapshots::snapshot;
 pub use starts::start;
 pub use told::{first_untold, is_told, last_precise};
 pub use turns::turn;
-pub use vectors::{current_vector, cuts_of, floor_of};
+pub use vectors::{current_vector, cuts_of, floor_of, vector_after};
 pub use withheld::{dark_between, omitted_between};
 pub use writes::{known_write, next_write};
 

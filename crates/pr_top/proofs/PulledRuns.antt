@@ -2,7 +2,7 @@
 use Rattle.std.proofs.Common.{◌≡◌, ℕ, ◌+◌, ◌<◌, ◌≤◌, ◌^◌, List, [], ◌∷◌, ◌++◌, Option, None, Some, Result, Ok, Err, inl, inr, refl, sym, ◌∙◌, ap, subst, drop, length, reverse, arith}
 use Rattle.std.specs.Prelude.{IfOk}
 use Rattle.std.specs.Io.KnownBytes.{Appends, Consumes, prepend_known}
-use Rattle.std.proofs.lemmas.List.{length-append, length-reverse}
+use Rattle.std.proofs.lemmas.List.{length-append, length-reverse, reverse-reverse}
 use Rattle.pr_inval.specs.declared.msg.Msg.{Msg}
 use Rattle.pr_names.specs.Span.{Span}
 use Rattle.pr_node.specs.Stored.{NodeMeaning}
@@ -166,6 +166,9 @@ entries_new j k es from grew is =
     past : (xs : List Entry) → drop (length xs) (xs ++ es) ≡ es
     past [] = refl
     past (x ∷ xs) = past xs
+
+pub entries_of : (items j : List Entry) (from : ℕ) → reverse items ≡ j → drop from items ≡ drop from (reverse j)
+entries_of items j from is = ap (λ (xs : List Entry). drop from xs) (sym (reverse-reverse items) ∙ ap (λ (xs : List Entry). reverse xs) is)
 
 pub items_long : (items j : List Entry) → reverse items ≡ j → length items ≡ length j
 items_long items j is = sym (length-reverse items) ∙ ap (λ (xs : List Entry). length xs) is

@@ -29,7 +29,7 @@ use pr_ports::{Sink, Source};
 use pr_script::{Bytes, Decls};
 use pr_serve::{ServeFault, pull_rest};
 use pr_stamps::{NoMemory, Seq};
-use pr_story::Entry;
+use pr_story::Journal;
 use pr_text::{ok, push_number};
 use std::alloc::Global;
 
@@ -91,7 +91,7 @@ fn pull_behind<S: Source, K: Sink>(
     let mut node = node_of(run, number);
     let from = node.journal().len();
     let end = take_in(alloc, front, number, &mut node, source);
-    match tell_entries(alloc, decls, number, entries_from(&node, from), out) {
+    match tell_entries(alloc, decls, number, node.journal(), from, out) {
         Ok(()) => close(alloc, end, lines as u64, out),
         Err(Halt::WriteFault) => Status::WriteFault,
         Err(_) => no_memory(out),
@@ -124,27 +124,22 @@ fn take_in<S: Source>(
     }
 }
 
-// The entries of a node from this place on.
-fn entries_from(node: &Node, from: usize) -> &[Entry]
-    requires { from ≤ length (means node.now).journal }
-    ensures { result.now ≡ drop from (reverse (means node.now).journal) }
-{
-    &node.journal().entries()[from..]
-}
-
-// Writes the lines of these entries of a node.
+// Writes the lines of a node's entries from this place on.
 fn tell_entries<K: Sink>(
     alloc: Global,
     decls: &Decls,
     node: u32,
-    entries: &[Entry],
+    journal: &Journal,
+    from: usize,
     out: &mut K,
 ) -> Result<(), Halt>
-    ensures told { Writes (entry_lines decls.now.list (entries_at node entries.now)) (HasRisen (K.faults out.old) (K.faults out.new)) (K.text out.old) (K.text out.new) result }
+    requires { from ≤ length journal.now.items }
+    ensures told { Writes (entry_lines decls.now.list (entries_at node (drop from journal.now.items))) (HasRisen (K.faults out.old) (K.faults out.new)) (K.text out.old) (K.text out.new) result }
     ensures rises { K.faults out.old ≤ K.faults out.new }
 {
     let mut text = Seq::new(alloc);
-    for entry in entries {
+    for at in 0..journal.len() - from {
+        let entry = journal.entry(from + at);
         tell_line(decls, node, &entry.event, &mut text, out)?;
     }
     Ok(())

@@ -78,7 +78,7 @@ fn last(node: &Node) -> &Entry
     requires { (e : Entry) × (j : List Entry) × ((means node.now).journal ≡ e ∷ j) }
     ensures { (e : Entry) (j : List Entry) → (means node.now).journal ≡ e ∷ j → result.now ≡ e }
 {
-    match node.journal().entries().last() {
+    match node.journal().last() {
         Some(entry) => entry,
         None => unreachable!(),
     }

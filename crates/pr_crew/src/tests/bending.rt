@@ -18,7 +18,7 @@ use pr_names::{Interval, Name};
 use pr_script::{Bytes, Decls, read};
 use pr_sets::NameSet;
 use pr_stamps::{NoMemory, Seq};
-use pr_story::Entry;
+use pr_story::Journal;
 use pr_text::line;
 use pr_vectors::Vector;
 use pr_wires::{Bend, BentWires, TapeWires, TrueWires, Wires};
@@ -103,12 +103,12 @@ fn tell(
     alloc: Global,
     decls: &Decls,
     node: u32,
-    entries: &[Entry],
+    journal: &Journal,
     text: &mut Bytes,
 ) -> Result<(), NoMemory> {
     let mut made = Seq::new(alloc);
-    for entry in entries {
-        line(decls, node, &entry.event, &mut made)?;
+    for place in 0..journal.len() {
+        line(decls, node, &journal.entry(place).event, &mut made)?;
         text.extend(made.as_slice())?;
     }
     Ok(())
@@ -128,13 +128,7 @@ fn tell_node<R: Wait>(
     requires room { pass.turns < 2 ^ 40 }
 {
     let mut turn = cell.take(rt, pass);
-    let told = tell(
-        alloc,
-        decls,
-        node,
-        turn.value().node.journal().entries(),
-        text,
-    );
+    let told = tell(alloc, decls, node, turn.value().node.journal(), text);
     let _ = cell.put(turn);
     told
 }

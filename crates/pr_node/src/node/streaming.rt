@@ -58,8 +58,8 @@ impl Node {
         ensures spent { self.old.spent ≡ true → result ≡ Err faults.NoMemory }
     {
         let time = self.diary.begin(session.time())?;
-        let entries = self.diary.journal().entries();
-        let event = next_turn(self.alloc, &self.stores, entries, session, scan, time)?;
+        let journal = self.diary.journal();
+        let event = next_turn(self.alloc, &self.stores, journal, session, scan, time)?;
         let step = match step_of(self.alloc, &event) {
             Ok(step) => step,
             Err(refused) => {
@@ -96,8 +96,8 @@ impl Node {
             self.diary.finish(time, caller, Event::Idle { stream });
             return Ok(Turned::Idle);
         }
-        let entries = self.diary.journal().entries();
-        let event = next_turn(self.alloc, &self.stores, entries, session, scan, time)?;
+        let journal = self.diary.journal();
+        let event = next_turn(self.alloc, &self.stores, journal, session, scan, time)?;
         let turned = kind_of(&event);
         note(session, &event, time);
         self.diary.finish(time, caller, event);

@@ -87,7 +87,7 @@ fn is_second<E>(done: &Result<Done, E>) -> bool {
 
 // Whether the last entry is a write over 1@A, at time 3.
 fn is_over_the_first(node: &Node) -> bool {
-    match node.journal().entries().last() {
+    match node.journal().last() {
         Some(
             Entry {
                 time: 3,

@@ -33,7 +33,7 @@ fn checkpoints(node: &mut Node, session: &mut Session) -> bool {
 
 // Whether the node's newest entry sends a message of this number, which is a checkpoint or not.
 fn has_sent(node: &Node, number: u64, checkpoint: bool) -> bool {
-    match node.journal().entries().last() {
+    match node.journal().last() {
         Some(entry) => match &entry.event {
             Event::Sent { msg } => {
                 msg.number == number && matches!(&msg.kind, Kind::Checkpoint { .. }) == checkpoint

@@ -7,12 +7,13 @@ use pr_stamps::Seq;
 use pr_story::Entry;
 use std::alloc::Global;
 
-/// A node, and its sets once more.
+/// A node, its sets once more, and what it did, as the definitions give it.
 #[derive(Drop)]
 pub struct Site {
     pub id: u32,
     pub sets: Seq<NameSet>,
     pub node: Node,
+    pub told: Vec<Entry>,
 }
 
 impl Site {
@@ -20,11 +21,16 @@ impl Site {
     pub fn new(alloc: Global, id: u32, texts: (&[u8], &[u8])) -> Option<Site> {
         let node = node(alloc, id, texts.0, texts.1)?;
         let sets = sets(alloc, texts.0, texts.1)?;
-        Some(Site { id, sets, node })
+        Some(Site {
+            id,
+            sets,
+            node,
+            told: Vec::new(alloc),
+        })
     }
 
     pub fn entries(&self) -> &[Entry] {
-        self.node.journal().entries()
+        self.told.as_slice()
     }
 
     /// The time of its last entry, 0 before the first.

@@ -124,8 +124,11 @@ fn stale(alloc: Global) -> Option<Engine> {
 // The node of the entry at this place, and a letter for what it says.
 fn told(engine: &Engine, at: usize) -> Option<(u32, u8)> {
     let (node, place) = *engine.history().get(at)?;
-    let entry = engine.journal(node)?.entries().get(place)?;
-    Some((node, letter(&entry.event)))
+    let journal = engine.journal(node)?;
+    if place >= journal.len() {
+        return None;
+    }
+    Some((node, letter(&journal.entry(place).event)))
 }
 
 fn letter(event: &Event) -> u8 {

@@ -21,8 +21,8 @@ fn end_of(kind: &Kind) -> Vector
     }
 }
 
-// The vector, where this entry follows.
-fn vector_after(entry: &Entry, vector: &Vector) -> Vector
+/// The vector, where this entry follows. In time linear in the nodes.
+pub fn vector_after(entry: &Entry, vector: &Vector) -> Vector
     ensures { (j : List Entry) → vector.now ≡ current_vector j → result ≡ current_vector (entry.now ∷ j) }
 {
     match &entry.event {

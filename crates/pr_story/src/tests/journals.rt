@@ -3,13 +3,13 @@
 use crate::{Cause, Entry, Event, Journal};
 use std::alloc::Global;
 
-// Three entries, at times 1 to 3.
-fn three(alloc: Global) -> Option<Journal> {
+// So many entries, at times from 1 on.
+fn entries(alloc: Global, count: u64) -> Option<Journal> {
     let mut journal = Journal::new(alloc);
-    for time in 1..4 {
+    for made in 0..count {
         journal.reserve().ok()?;
         journal.push(Entry {
-            time,
+            time: made + 1,
             caller: 0,
             event: Event::Down {
                 stream: 7,
@@ -20,13 +20,26 @@ fn three(alloc: Global) -> Option<Journal> {
     Some(journal)
 }
 
-fn are_kept(alloc: Global) -> Option<bool> {
-    let journal = three(alloc)?;
-    let entries = journal.entries();
-    Some(journal.len() == 3 && entries.first()?.time == 1 && entries.last()?.time == 3)
+// Whether a journal of so many has each where it was put.
+fn are_kept(alloc: Global, count: u64) -> Option<bool> {
+    let journal = entries(alloc, count)?;
+    for place in 0..journal.len() {
+        if journal.entry(place).time != place as u64 + 1 {
+            return Some(false);
+        }
+    }
+    Some(journal.len() as u64 == count && journal.last()?.time == count)
 }
 
 #[test]
 fn a_journal_keeps_its_entries(rt: HostRuntime) {
-    assert!(rt; are_kept(rt.alloc()).unwrap_or(false));
+    assert!(rt; are_kept(rt.alloc(), 3).unwrap_or(false));
+}
+
+// A page has 256 of them.
+#[test]
+fn a_journal_of_many_pages_keeps_its_entries(rt: HostRuntime) {
+    assert!(rt; are_kept(rt.alloc(), 256).unwrap_or(false));
+    assert!(rt; are_kept(rt.alloc(), 257).unwrap_or(false));
+    assert!(rt; are_kept(rt.alloc(), 1000).unwrap_or(false));
 }

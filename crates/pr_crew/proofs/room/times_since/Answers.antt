@@ -1,4 +1,4 @@
-use Rattle.std.proofs.Common.{List, drop, map, ap, ◌∙◌}
+use Rattle.std.proofs.Common.{List, map, ap, ◌∙◌}
 use Rattle.pr_story.specs.declared.entry.Entry.{Entry}
 use Rattle.pr_crew.proofs.Filling.{behind_so}
 use Rattle.pr_crew.proofs.room.times_since.Goals as goal
@@ -6,5 +6,5 @@ use Rattle.pr_crew.proofs.room.times_since.Goals as goal
 pub returns-clause-times : goal.returns-clause-times
 returns-clause-times g c before made behind =
     let (m, here, told) = c.in-Some.ensures in
-    let rest = c.since.ensures.rest ∙ ap (λ (l : List Entry). drop c.args.opened l) c.entries.ensures ∙ behind_so before made c.in-Some.journal.now.items c.args.node c.args.opened (g.H.Held.state c.args.held.now) m here told behind in
-    c.times_of.ensures ∙ ap (λ (l : List Entry). map (λ (e : Entry). e.time) l) rest
+    let rest = behind_so before made c.in-Some.journal.now.items c.args.node c.args.opened (g.H.Held.state c.args.held.now) m here told behind in
+    c.times_behind.ensures.times ∙ ap (λ (l : List Entry). map (λ (e : Entry). e.time) l) rest

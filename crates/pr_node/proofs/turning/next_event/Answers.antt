@@ -12,17 +12,17 @@ use Rattle.pr_node.proofs.turning.next_event.Goals as goal
 pub returns-then-not-le-2-clause-next : goal.returns-then-not-le-2-clause-next
 returns-then-not-le-2-clause-next c =
     let A : Event → Type 0 = λ e. (n : ℕ) (j : List Entry) → IsLogOf n j c.args.stores.now.log → IsSentOf (IsAhead n j c.sub.result.now c.pos-position.result.now) (means c.args.session.now) c.args.time e in
-    let N : Event → Type 0 = λ e. (n : ℕ) → IsTied n (reverse c.args.entries.now) c.args.stores.now → IsNextTurn n (reverse c.args.entries.now) (means c.args.session.now) c.args.time e in
+    let N : Event → Type 0 = λ e. (n : ℕ) → IsTied n (reverse c.args.journal.now.items) c.args.stores.now → IsNextTurn n (reverse c.args.journal.now.items) (means c.args.session.now) c.args.time e in
     if_ok c.ahead.result A N
-    (λ e so n f. turn_ahead n (reverse c.args.entries.now) c.args.stores.now.log (means c.args.session.now) c.args.time c.pos-position.result.now c.vector.result.now c.sub.result.now e f.log (search rules) c.pos-position.ensures.value c.sub.ensures.value c.vector.ensures.value
-    (search rules) (so n (reverse c.args.entries.now) f.log))
+    (λ e so n f. turn_ahead n (reverse c.args.journal.now.items) c.args.stores.now.log (means c.args.session.now) c.args.time c.pos-position.result.now c.vector.result.now c.sub.result.now e f.log (search rules) c.pos-position.ensures.value c.sub.ensures.value c.vector.ensures.value
+    (search rules) (so n (reverse c.args.journal.now.items) f.log))
     c.ahead.ensures.next
 
 pub returns-then-bodies-clause-next : goal.returns-then-bodies-clause-next
 returns-then-bodies-clause-next c =
-    let B : Event → Type 0 = λ e. (n : ℕ) → IsTied n (reverse c.args.entries.now) c.args.stores.now → IsBodyTurn (reverse c.args.entries.now) (means c.args.session.now) c.args.time e in
-    let N : Event → Type 0 = λ e. (n : ℕ) → IsTied n (reverse c.args.entries.now) c.args.stores.now → IsNextTurn n (reverse c.args.entries.now) (means c.args.session.now) c.args.time e in
+    let B : Event → Type 0 = λ e. (n : ℕ) → IsTied n (reverse c.args.journal.now.items) c.args.stores.now → IsBodyTurn (reverse c.args.journal.now.items) (means c.args.session.now) c.args.time e in
+    let N : Event → Type 0 = λ e. (n : ℕ) → IsTied n (reverse c.args.journal.now.items) c.args.stores.now → IsNextTurn n (reverse c.args.journal.now.items) (means c.args.session.now) c.args.time e in
     if_ok c.send_body.result B N
-    (λ e so n f. turn_body n (reverse c.args.entries.now) c.args.stores.now.log (means c.args.session.now) c.args.time c.pos-position.result.now c.vector.result.now e f.log (search rules) c.pos-position.ensures.value c.vector.ensures.value
+    (λ e so n f. turn_body n (reverse c.args.journal.now.items) c.args.stores.now.log (means c.args.session.now) c.args.time c.pos-position.result.now c.vector.result.now e f.log (search rules) c.pos-position.ensures.value c.vector.ensures.value
     (search rules) (sym c.bodies.ensures ∙ c.if-bodies.true) (so n f))
     c.send_body.ensures.next

@@ -6,4 +6,4 @@ use Rattle.pr_node.specs.Sending.{IsNextBodyOf}
 use Rattle.pr_node.proofs.turning.send_body.Goals as goal
 
 pub returns-in-None-clause-next : goal.returns-in-None-clause-next
-returns-in-None-clause-next c n f = (c.stream.ensures, subst (λ (k : Option Kind). IsNextBodyOf (reverse c.args.entries.now) (means c.args.session.now).standing k) c.in-None.is (c.in_ok-kind.ensures.next n f))
+returns-in-None-clause-next c n f = (c.stream.ensures, subst (λ (k : Option Kind). IsNextBodyOf (reverse c.args.journal.now.items) (means c.args.session.now).standing k) c.in-None.is (c.in_ok-kind.ensures.next n f))

@@ -1,4 +1,4 @@
-use Rattle.std.proofs.Common.{◌≡◌, ◌+◌, ◌∙◌, ◌≤◌, Err, List, ap, arith, length, rules, subst, sym, ℕ}
+use Rattle.std.proofs.Common.{◌≡◌, drop, ◌+◌, ◌∙◌, ◌≤◌, Err, List, ap, arith, length, rules, subst, sym, ℕ}
 use Rattle.std.specs.Io.KnownBytes.{Appends, prepend_known}
 use Rattle.pr_node.specs.Stored.{NodeMeaning, means}
 use Rattle.pr_ports.specs.Faults.{HasRisen}
@@ -13,7 +13,7 @@ use Rattle.pr_top.specs.declared.status.Status.{Status}
 use Rattle.pr_top.specs.declared.status.Status.TheVariants as status
 use Rattle.pr_top.specs.declared.stepping.Halt.{Halt}
 use Rattle.pr_top.proofs.AskedRuns.{tells_run}
-use Rattle.pr_top.proofs.PulledRuns.{entries_new, entries_within, has_pulled, items_long, lines_fit, never_written}
+use Rattle.pr_top.proofs.PulledRuns.{entries_new, entries_of, entries_within, has_pulled, items_long, lines_fit, never_written}
 use Rattle.pr_top.proofs.PulledTexts.{closed_text, lines_cut, lines_short}
 use Rattle.pr_top.proofs.StreamLists.{few_decls}
 use Rattle.pr_top.proofs.Written.{risen_then}
@@ -22,8 +22,8 @@ use Rattle.pr_top.proofs.pulling.pull_behind.Goals as goal
 pub node_of-node-requires : goal.node_of-node-requires
 node_of-node-requires g c = (c.args.front.now.script, c.requires.come.0, c.requires.come.1, c.requires.known)
 
-pub entries_from-requires : goal.entries_from-requires
-entries_from-requires g c =
+pub tell_entries-requires : goal.tell_entries-requires
+tell_entries-requires g c =
     let s = c.args.front.now.script in
     let n = c.args.number in
     let left = prepend_known c.args.front.now.ahead (g.S.Source.left c.args.source.now) in
@@ -38,7 +38,8 @@ entries_from-requires g c =
     let was = c.journal.ensures ∙ ap (λ (x : NodeMeaning). x.journal) same in
     let place : c.len-from.result ≡ length (journal h n) = c.len-from.ensures ∙ items_long c.journal.result.now.items (journal h n) was in
     let within = entries_within (journal h n) then.journal p.0 p.1.journal_is in
-    omega (arith, place, within)
+    let all = items_long c.journal-2.result.now.items then.journal c.journal-2.ensures in
+    omega (arith, place, within, all)
 
 pub close-requires-clause-fits : goal.close-requires-clause-fits
 close-requires-clause-fits g c =
@@ -94,7 +95,7 @@ returns-in-Ok g c = λ h before risen come written le.
     let mid = g.K.Sink.faults c.tell_entries.new.out in
     let was = c.journal.ensures ∙ ap (λ (x : NodeMeaning). x.journal) same in
     let place : c.len-from.result ≡ length (journal h n) = c.len-from.ensures ∙ items_long c.journal.result.now.items (journal h n) was in
-    let fresh : c.entries_from.result.now ≡ es = c.entries_from.ensures ∙ entries_new (journal h n) then.journal es c.len-from.result p.1.journal_is place in
+    let fresh : drop c.len-from.result c.journal-2.result.now.items ≡ es = entries_of c.journal-2.result.now.items then.journal c.len-from.result c.journal-2.ensures ∙ entries_new (journal h n) then.journal es c.len-from.result p.1.journal_is place in
     let z = g.K.Sink.text c.close.new.out in
     let last = g.K.Sink.faults c.close.new.out in
     let told : Appends a b (entry_lines s.decls.list (entries_at n es)) = subst (λ (xs : List Entry). Appends a b (entry_lines s.decls.list (entries_at n xs))) fresh c.in-Ok.ensures.told in
@@ -128,7 +129,7 @@ returns-in-Err-WriteFault g c = λ h before risen come written le.
     let mid = g.K.Sink.faults c.tell_entries.new.out in
     let was = c.journal.ensures ∙ ap (λ (x : NodeMeaning). x.journal) same in
     let place : c.len-from.result ≡ length (journal h n) = c.len-from.ensures ∙ items_long c.journal.result.now.items (journal h n) was in
-    let fresh : c.entries_from.result.now ≡ es = c.entries_from.ensures ∙ entries_new (journal h n) then.journal es c.len-from.result p.1.journal_is place in
+    let fresh : drop c.len-from.result c.journal-2.result.now.items ≡ es = entries_of c.journal-2.result.now.items then.journal c.len-from.result c.journal-2.ensures ∙ entries_new (journal h n) then.journal es c.len-from.result p.1.journal_is place in
     let failed : Type 0 = HasRisen old mid in
     let cut = subst (λ (x : Halt). Writes {X = Unit {0}} (entry_lines s.decls.list (entries_at n es)) failed a b (Err x)) c.in-Err-WriteFault.field-0-is
     (subst (λ (xs : List Entry). Writes {X = Unit {0}} (entry_lines s.decls.list (entries_at n xs)) failed a b (Err c.in-Err-WriteFault.field-0)) fresh c.in-Err-WriteFault.ensures.told) in
@@ -156,7 +157,7 @@ returns g c = λ h before risen come written le.
     let mid = g.K.Sink.faults c.tell_entries.new.out in
     let was = c.journal.ensures ∙ ap (λ (x : NodeMeaning). x.journal) same in
     let place : c.len-from.result ≡ length (journal h n) = c.len-from.ensures ∙ items_long c.journal.result.now.items (journal h n) was in
-    let fresh : c.entries_from.result.now ≡ es = c.entries_from.ensures ∙ entries_new (journal h n) then.journal es c.len-from.result p.1.journal_is place in
+    let fresh : drop c.len-from.result c.journal-2.result.now.items ≡ es = entries_of c.journal-2.result.now.items then.journal c.len-from.result c.journal-2.ensures ∙ entries_new (journal h n) then.journal es c.len-from.result p.1.journal_is place in
     let z = g.K.Sink.text c.no_memory.new.out in
     let last = g.K.Sink.faults c.no_memory.new.out in
     let failed : Type 0 = HasRisen old mid in

@@ -47,7 +47,7 @@ kind_of-turned-requires c =
     let n = c.self.inside.id in
     let a : SessionMeaning = means c.args.session.now in
     let event = c.in_ok-event.event in
-    let next = tied_so n _ _ c.self.inside.stores (λ j. IsNextTurn n j a c.in_ok-time.time c.in_ok-event.event) (c.entries-entries.ensures ∙ ap (λ (x : Kept Entry). x.items) c.journal.ensures ∙ c.in_ok-time.ensures.items) (c.in_ok-event.ensures.next n) (c.self.invariant.1 c.in_ok-time.ensures.worked) in
+    let next = tied_so n _ _ c.self.inside.stores (λ j. IsNextTurn n j a c.in_ok-time.time c.in_ok-event.event) (ap (λ (x : Kept Entry). x.items) c.journal-journal.ensures ∙ c.in_ok-time.ensures.items) (c.in_ok-event.ensures.next n) (c.self.invariant.1 c.in_ok-time.ensures.worked) in
     (a.stream, turn_of n _ a c.in_ok-time.time event next)
 
 pub invariant_of-self-2 : goal.invariant_of-self-2
@@ -55,7 +55,7 @@ invariant_of-self-2 c =
     let n = c.self.inside.id in
     let a : SessionMeaning = means c.args.session.now in
     let event = c.in_ok-event.event in
-    let next = tied_so n _ _ c.self.inside.stores (λ j. IsNextTurn n j a c.in_ok-time.time c.in_ok-event.event) (c.entries-entries.ensures ∙ ap (λ (x : Kept Entry). x.items) c.journal.ensures ∙ c.in_ok-time.ensures.items) (c.in_ok-event.ensures.next n) (c.self.invariant.1 c.in_ok-time.ensures.worked) in
+    let next = tied_so n _ _ c.self.inside.stores (λ j. IsNextTurn n j a c.in_ok-time.time c.in_ok-event.event) (ap (λ (x : Kept Entry). x.items) c.journal-journal.ensures ∙ c.in_ok-time.ensures.items) (c.in_ok-event.ensures.next n) (c.self.invariant.1 c.in_ok-time.ensures.worked) in
     stands n _ _ _ _ _ _ c.self.invariant.0 c.in_ok-time.ensures.items c.finish-2.ensures.items
     (quiet_tied n _ _ _ (turn_quiet n _ a c.in_ok-time.time event next) (c.self.invariant.1 c.in_ok-time.ensures.worked))
 
@@ -64,27 +64,27 @@ returns-clause-ok c needs =
     let n = c.self.inside.id in
     let a : SessionMeaning = means c.args.session.now in
     let event = c.in_ok-event.event in
-    let next = tied_so n _ _ c.self.inside.stores (λ j. IsNextTurn n j a c.in_ok-time.time c.in_ok-event.event) (c.entries-entries.ensures ∙ ap (λ (x : Kept Entry). x.items) c.journal.ensures ∙ c.in_ok-time.ensures.items) (c.in_ok-event.ensures.next n) (c.self.invariant.1 c.in_ok-time.ensures.worked) in
+    let next = tied_so n _ _ c.self.inside.stores (λ j. IsNextTurn n j a c.in_ok-time.time c.in_ok-event.event) (ap (λ (x : Kept Entry). x.items) c.journal-journal.ensures ∙ c.in_ok-time.ensures.items) (c.in_ok-event.ensures.next n) (c.self.invariant.1 c.in_ok-time.ensures.worked) in
     rw (← c.self.view_is) (adds _ _ _ _ _ _ _ _ _ (λ x. a.standing) needs _ c.time.result _ c.in_ok-time.ensures.items c.finish-2.ensures.items refl c.finish-2.ensures.spent
     (turn_ready needs n _ _ a _ _ event c.in_ok-event.ensures.range next)
     c.ranges.caller.fits refl (c.time.ensures.value ∙ turn_heard n _ a c.in_ok-time.time event next) c.in_ok-time.ensures.time (
       turn_told n _ a _ _ c.kind_of-turned.result event c.kind_of-turned.ensures next
-          (tied_so n _ _ c.self.inside.stores (λ j. IsSendSpelled c.in_ok-event.event) (c.entries-entries.ensures ∙ ap (λ (x : Kept Entry). x.items) c.journal.ensures ∙ c.in_ok-time.ensures.items) (c.in_ok-event.ensures.spelled n) (c.self.invariant.1 c.in_ok-time.ensures.worked)),
+          (tied_so n _ _ c.self.inside.stores (λ j. IsSendSpelled c.in_ok-event.event) (ap (λ (x : Kept Entry). x.items) c.journal-journal.ensures ∙ c.in_ok-time.ensures.items) (c.in_ok-event.ensures.spelled n) (c.self.invariant.1 c.in_ok-time.ensures.worked)),
       has_gone_on a (means c.next_turn.new.session) (means c.note.new.session) _ c.in_ok-event.ensures.same c.requires.attached (c.note.ensures c.args.caller),
     ))
 
 pub returns-in_err-event-clause-scan : goal.returns-in_err-event-clause-scan
 returns-in_err-event-clause-scan c =
     subst (λ (es : List Entry). IsScanOf c.next_turn.new.scan (means c.next_turn.new.session).standing (reverse es)) (sym c.in_ok-time.ensures.items)
-    (tied_so c.self.inside.id _ _ c.self.inside.stores (λ j. IsScanOf c.next_turn.new.scan (means c.next_turn.new.session).standing j) (c.entries-entries.ensures ∙ ap (λ (x : Kept Entry). x.items) c.journal.ensures ∙ c.in_ok-time.ensures.items) (c.next_turn.ensures.scan c.self.inside.id) (c.self.invariant.1 c.in_ok-time.ensures.worked))
+    (tied_so c.self.inside.id _ _ c.self.inside.stores (λ j. IsScanOf c.next_turn.new.scan (means c.next_turn.new.session).standing j) (ap (λ (x : Kept Entry). x.items) c.journal-journal.ensures ∙ c.in_ok-time.ensures.items) (c.next_turn.ensures.scan c.self.inside.id) (c.self.invariant.1 c.in_ok-time.ensures.worked))
 
 pub returns-clause-scan : goal.returns-clause-scan
 returns-clause-scan c =
     let n = c.self.inside.id in
     let a : SessionMeaning = means c.args.session.now in
     let event = c.in_ok-event.event in
-    let next = tied_so n _ _ c.self.inside.stores (λ j. IsNextTurn n j a c.in_ok-time.time c.in_ok-event.event) (c.entries-entries.ensures ∙ ap (λ (x : Kept Entry). x.items) c.journal.ensures ∙ c.in_ok-time.ensures.items) (c.in_ok-event.ensures.next n) (c.self.invariant.1 c.in_ok-time.ensures.worked) in
+    let next = tied_so n _ _ c.self.inside.stores (λ j. IsNextTurn n j a c.in_ok-time.time c.in_ok-event.event) (ap (λ (x : Kept Entry). x.items) c.journal-journal.ensures ∙ c.in_ok-time.ensures.items) (c.in_ok-event.ensures.next n) (c.self.invariant.1 c.in_ok-time.ensures.worked) in
     scan_turned c.next_turn.new.scan (means c.next_turn.new.session) (means c.note.new.session) _ _ c.begin.new.self.entries.items _ (c.note.ensures c.args.caller)
     (subst (λ k. IsTurnOf k c.in_ok-event.event) (sym c.in_ok-event.ensures.same.stream) (turn_of n _ a c.in_ok-time.time event next)) c.finish-2.ensures.items
     (subst (λ (es : List Entry). IsScanOf c.next_turn.new.scan (means c.next_turn.new.session).standing (reverse es)) (sym c.in_ok-time.ensures.items)
-    (tied_so c.self.inside.id _ _ c.self.inside.stores (λ j. IsScanOf c.next_turn.new.scan (means c.next_turn.new.session).standing j) (c.entries-entries.ensures ∙ ap (λ (x : Kept Entry). x.items) c.journal.ensures ∙ c.in_ok-time.ensures.items) (c.next_turn.ensures.scan c.self.inside.id) (c.self.invariant.1 c.in_ok-time.ensures.worked)))
+    (tied_so c.self.inside.id _ _ c.self.inside.stores (λ j. IsScanOf c.next_turn.new.scan (means c.next_turn.new.session).standing j) (ap (λ (x : Kept Entry). x.items) c.journal-journal.ensures ∙ c.in_ok-time.ensures.items) (c.next_turn.ensures.scan c.self.inside.id) (c.self.invariant.1 c.in_ok-time.ensures.worked)))

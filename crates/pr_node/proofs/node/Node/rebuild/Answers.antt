@@ -1,4 +1,4 @@
-use Rattle.std.proofs.Common.{◌∙◌, List, reverse, subst, sym}
+use Rattle.std.proofs.Common.{List, reverse, subst, sym}
 use Rattle.pr_story.specs.declared.entry.Entry.{Entry}
 use Rattle.pr_node.specs.Ties.{IsTied}
 use Rattle.pr_node.proofs.Rebuilt.{early}
@@ -10,5 +10,5 @@ of-requires c = early c.args.id (reverse c.args.journal.items) c.requires.told
 pub invariant_of-result : goal.invariant_of-result
 invariant_of-result c = (
   c.requires.id,
-  λ works. subst (λ (es : List Entry). IsTied c.args.id (reverse es) c.in_ok-stores.stores) (c.entries.ensures ∙ sym c.of.ensures.items) c.in_ok-stores.ensures.tied,
+  λ works. subst (λ (es : List Entry). IsTied c.args.id (reverse es) c.in_ok-stores.stores) (sym c.of.ensures.items) c.in_ok-stores.ensures.tied,
 )
