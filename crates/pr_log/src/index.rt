@@ -280,6 +280,17 @@ impl Index {
         let _ = &self.rows;
     }
 
+    // Whether the write is known, in time logarithmic in its node's writes, and past the last of them in constant time.
+    pub(crate) fn has(&self, write: &WriteRec) -> bool
+        ensures { IsTrue result → Has self.now write.now }
+    {
+        let mut place = 0;
+        match self.first_above(write.stamp.node(), write.stamp.clock() - 1, &mut place) {
+            Some(known) => known == write,
+            None => false,
+        }
+    }
+
     // The known write of the node with the least clock above this one. It counts no step, so no other module has it.
     // It is looked for at this place first.
     #[inline]

@@ -1,13 +1,13 @@
 // The causal log of a node.
 ghost use Rattle.pr_inval.specs.declared.write_rec.WriteRec.{WriteRec};
 ghost use Rattle.pr_log.specs.Known.{Has, IsNew, uncovered};
-ghost use Rattle.pr_log.specs.Log.{IsAddedOwn, IsCut, IsDarkIn, IsDarkened, IsNewLog, IsOmittedIn, IsRefined};
+ghost use Rattle.pr_log.specs.Log.{IsAddedOwn, IsCut, IsDarkIn, IsDarkened, IsNewLog, IsOmittedIn, IsRefined, Knows};
 ghost use Rattle.pr_log.specs.Many.{IsSetWithin};
 ghost use Rattle.pr_log.specs.Waiting.{IsNextOf};
 ghost use Rattle.pr_sets.specs.Spans.{IsSetOf};
 ghost use Rattle.pr_vectors.specs.Vector.{Covers, IsVector, Le, clock_of, join_of};
 ghost use Rattle.std.specs.Option.{option_copied};
-ghost use Rattle.std.specs.Prelude.{◌≡◌, ◌≤◌, ◌<◌, ◌+◌, ◌⊎◌, ◌↔◌, ℕ, List, true, false, IfOk, IsErr, OnErr, OnOk, Some};
+ghost use Rattle.std.specs.Prelude.{◌≡◌, ◌≤◌, ◌<◌, ◌+◌, ◌⊎◌, ◌↔◌, ℕ, List, true, false, IfOk, IsErr, IsTrue, OnErr, OnOk, Some};
 
 use crate::dark::Dark;
 use crate::index::Index;
@@ -158,6 +158,15 @@ impl Log {
     {
         let _ = self.cut.at(0);
         &self.cut
+    }
+
+    /// Whether this very write is known, and the cut does not cover it, in time logarithmic in the known writes of its
+    /// node, and past the last of them in constant time.
+    pub fn knows(&self, write: &WriteRec) -> bool
+        ensures known { IsTrue result → Knows self.now write.now }
+        ensures uncut { IsTrue result → ¬ Covers self.now.cut write.now.stamp }
+    {
+        !self.cut.covers(&write.stamp) && self.known.has(write)
     }
 
     /// Whether a call was refused memory.

@@ -18,7 +18,7 @@ body_step e j a b step f = record {
   bodies = λ o t latest. step o t latest ∙ ap (λ (x : Option (List ℕ)). body_after e.event o t x) (f.bodies o t (λ s w. latest s (inr w)));
 }
 
-is_before_tells : (s t : Point) → is_before s t ≡ true → Before s t
+pub is_before_tells : (s t : Point) → is_before s t ≡ true → Before s t
 is_before_tells s t e = grind (arith, nat_tests)
 
 settled_cond : (b c : Bool) (x : Option (List ℕ)) → (b ≡ true → c ≡ true → ⊥) → cond (b && c) None x ≡ x

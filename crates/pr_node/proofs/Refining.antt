@@ -1,8 +1,9 @@
 -- All stores stay tied over an accepted invalidation.
-use Rattle.std.proofs.Common.{◌≡◌, ℕ, inl, inr, List, [], ◌∷◌, cond, refl, sym, ◌∙◌, ap, subst}
+use Rattle.std.proofs.Common.{◌≡◌, ◌⊎◌, ℕ, inl, inr, List, [], ◌∷◌, cond, refl, sym, ◌∙◌, ap, subst}
 use Rattle.std.specs.Prelude.{Option, Some, None}
 use Rattle.pr_stamps.specs.Point.{Point, is_this}
 use Rattle.pr_stamps.specs.declared.mark.Mark.{Mark}
+use Rattle.pr_stamps.specs.declared.newest.Newest.{Newest}
 use Rattle.pr_names.specs.Span.{Span}
 use Rattle.pr_inval.specs.declared.kind.Kind.{Kind}
 use Rattle.pr_inval.specs.declared.kind.Kind.TheVariants.{Precise, Imprecise}
@@ -15,8 +16,8 @@ use Rattle.pr_bodies.specs.Bodies.{Held, held, IsSettled}
 use Rattle.pr_marks.specs.Table.{Table, IsMarked}
 use Rattle.pr_story.specs.declared.entry.Entry.{Entry}
 use Rattle.pr_story.specs.declared.event.Event.TheVariants.{Accepted}
-use Rattle.pr_story.specs.Knowledge.{IsOf, HasRow, body_in, floor_in, mark_in, mark_of, mark_told, body_after}
-use Rattle.pr_story.specs.Search.{IsNewestIn}
+use Rattle.pr_story.specs.Knowledge.{HeardOf, IsOf, HasRow, body_in, floor_in, mark_in, mark_of, mark_told, body_after}
+use Rattle.pr_story.specs.Search.{IsNewestIn, IsOnly}
 use Rattle.pr_story.proofs.NewestNow.{accepted_newest}
 use Rattle.pr_node.specs.declared.stores.Stores.{Stores}
 use Rattle.pr_node.specs.Ties.{IsTied, IsMarksOf}
@@ -24,7 +25,7 @@ use Rattle.pr_inval.specs.Messages.{IsKind}
 use Rattle.pr_node.proofs.Logs.{refined_log, some_same}
 use Rattle.pr_node.proofs.Points.{covered_gaps}
 use Rattle.pr_node.proofs.Held.{body_step, settled_by}
-use Rattle.pr_node.proofs.Tables.{write_marked, same_marks}
+use Rattle.pr_node.proofs.Tables.{heard_again, write_marked, same_marks}
 use Rattle.pr_node.proofs.Spelled.{prev_range}
 
 -- ---- what a kind says, of a message that is of it
@@ -44,11 +45,11 @@ no_newest msg at k o is of rows = λ s t. elim t [
 
 -- ---- invalidations
 
-pub precise_tied : (n : ℕ) (j : List Entry) (a b : Stores) (time caller : ℕ) (msg : Msg) (at from to : List ℕ) (none : List Span) (mark : Mark) (write : WriteRec)
-    → none ≡ [] → mark ≡ mark_of write → msg.kind ≡ Precise from to write → IsKind (Precise from to write) → IsTied n j a
-    → IsRefined a.log b.log from to none (Some write) → IsCovered a.gaps b.gaps from to none → IsSettled a.bodies b.bodies write.name write.stamp → IsMarked a.marks b.marks write.name mark write.gone
+pub precise_tied : (n : ℕ) (j : List Entry) (a b : Stores) (time caller : ℕ) (msg : Msg) (at from to : List ℕ) (none : List Span) (write : WriteRec)
+    → none ≡ [] → msg.kind ≡ Precise from to write → IsKind (Precise from to write) → IsTied n j a
+    → IsRefined a.log b.log from to none (Some write) → IsCovered a.gaps b.gaps from to none → IsSettled a.bodies b.bodies write.name write.stamp → IsMarked a.marks b.marks write.name (mark_of write) write.gone ⊎ ((b.marks ≡ a.marks) × HeardOf j write)
     → IsTied n (record { time = time; caller = caller; event = Accepted msg at } ∷ j) b
-precise_tied n j a b time caller msg at from to none mark write empty is_mark is grammar f refined covered settled marked =
+precise_tied n j a b time caller msg at from to none write empty is grammar f refined covered settled marked =
     let k : Kind = Precise from to write in
     let e : Entry = record { time = time; caller = caller; event = Accepted msg at } in
     record {
@@ -57,10 +58,13 @@ precise_tied n j a b time caller msg at from to none mark write empty is_mark is
       bodies = body_step e j a.bodies b.bodies (λ o t latest.
           settled o t ∙ settled_by write.name o write.stamp t (λ same before. latest write.stamp (inl (inl (write, subst (λ (q : Kind). IsOf q write) (sym is) refl, same, refl))) before)
           ∙ sym (same_body msg at k o t (held a.bodies o t) (held a.bodies o t) is refl)) f.bodies;
-      marks = write_marked e j a.marks b.marks write f.marks (subst (λ (m : Mark). IsMarked a.marks b.marks write.name m write.gone) is_mark marked) (grammar.3.stamp, prev_range write.prev write.stamp grammar.3.prev)
-          (λ o r only. accepted_newest msg at from to write o r is only)
-          (λ o s. same_mark msg at k o s (cond (is_this write.name write.stamp o s) (Some (mark_of write)) None) is refl)
-          (ap floor_in is);
+      marks =
+          let only = λ (o : List ℕ) (r : Option Newest) (is_only : IsOnly write o r). accepted_newest msg at from to write o r is is_only in
+          let told = λ (o : List ℕ) (s : Point). same_mark msg at k o s (cond (is_this write.name write.stamp o s) (Some (mark_of write)) None) is refl in
+          elim marked [
+            | inl new ↦ write_marked e j a.marks b.marks write f.marks new (grammar.3.stamp, prev_range write.prev write.stamp grammar.3.prev) only told (ap floor_in is)
+            | inr old ↦ subst (λ (m : Table). IsMarksOf (e ∷ j) m) (sym old.0) (heard_again e j a.marks write f.marks old.1 grammar.3.stamp.from_one only told (ap floor_in is))
+          ];
       spelled = (subst (λ (q : Kind). IsKind q) (sym is) grammar, f.spelled);
     }
 

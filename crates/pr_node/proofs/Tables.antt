@@ -1,5 +1,5 @@
 -- The table of marks stays tied over one more entry.
-use Rattle.std.proofs.Common.{◌≡◌, ◌≢◌, ℕ, ◌≤◌, List, ◌∷◌, cond, refl, sym, ◌∙◌, ap, subst, arith, nat_eq}
+use Rattle.std.proofs.Common.{◌≡◌, ◌≢◌, ℕ, ◌≤◌, List, [], ◌∷◌, inl, inr, cond, refl, sym, ◌∙◌, ap, subst, arith, nat_eq}
 use Rattle.std.specs.Prelude.{All, Bool, true, false, ◌&&◌, Option, Some, None}
 use Rattle.std.specs.Str.{bytes_eq}
 use Rattle.std.proofs.lemmas.Slice.Eq.{bytes_eq-Decides}
@@ -13,12 +13,18 @@ use Rattle.pr_marks.specs.Row.{Rises, with_mark}
 use Rattle.pr_marks.specs.Table.{Table, newest_of, marks_of, raised_to, IsMarked}
 use Rattle.pr_marks.proofs.Placed.{rises_with}
 use Rattle.pr_story.specs.declared.entry.Entry.{Entry}
-use Rattle.pr_story.specs.Knowledge.{first_of, floor_after, floor_of, known_mark, mark_of, mark_told}
+use Rattle.pr_story.specs.Knowledge.{HeardOf, TellsOf, WasNamed, first_of, floor_after, floor_of, known_mark, mark_of, mark_told}
 use Rattle.pr_story.specs.Search.{later_of, IsOnly, IsNewestIn, IsNewestOf}
+use Rattle.pr_story.specs.declared.event.Event.{Event}
+use Rattle.pr_story.specs.declared.event.Event.TheVariants.{Accepted, Wrote}
+use Rattle.pr_story.proofs.Known.{Decides-is_this, same_point}
+use Rattle.pr_story.proofs.Naming.{TellsMark, WasToldMark, told_known_mark}
 use Rattle.pr_story.proofs.NewestNow.{first_none, newest_more}
+use Rattle.pr_story.proofs.Precise.{told_named}
 use Rattle.pr_node.specs.Ties.{IsMarksOf, IsMarkInRange}
 use Rattle.pr_snap.proofs.Choice.{by_test}
 use Rattle.pr_node.proofs.Clocks.{floor_same}
+use Rattle.pr_node.proofs.Held.{is_before_tells}
 use Rattle.pr_node.proofs.Marked.{IsKept, here, kept_more, all_with}
 
 pub newest_raised : (n : Option Newest) (x : Newest) → Some (raised_to n x) ≡ later_of n (Some x)
@@ -93,6 +99,68 @@ write_marked e j a b write f marked range only told floor = record {
   rises = λ o. rises_marked a b write.name o (mark_of write) write.gone f.rises marked;
   from_one = λ o s zero. ap (λ (x : Option Mark). first_of x (mark_told e.event o s)) (f.from_one o s zero) ∙ told o s ∙ ap (λ (q : Bool). cond q (Some (mark_of write)) None) (none_at_zero write o s range.0.from_one zero);
   marks = λ o s. marks_marked j a b write o s (mark_told e.event o s) f marked (told o s);
+}
+
+-- ---- one write's mark once more
+
+tells_own : (event : Event) (x : WriteRec) → TellsOf event x → TellsMark event x.name (mark_of x)
+tells_own (Wrote client write body after) x is = (ap (λ (w : WriteRec). w.name) is, ap (λ (w : WriteRec). w.stamp) is, ap (λ (w : WriteRec). w.prev) is)
+tells_own (Accepted msg at) x is = inl (x, is, refl, refl, refl)
+tells_own _ x is = absurd is
+
+told_again : (j : List Entry) (x : WriteRec) → HeardOf j x → WasToldMark j x.name (mark_of x)
+told_again [] x heard = absurd heard
+told_again (e ∷ j) x heard = elim heard [ inl now ↦ inl (tells_own e.event x now) | inr old ↦ inr (told_again j x old) ]
+
+first_kept : (a b : Option Mark) (x : Mark) → a ≡ Some x → first_of a b ≡ a
+first_kept a b x is = ap (λ (q : Option Mark). first_of q b) is ∙ sym is
+
+mark_again : (j : List Entry) (write : WriteRec) (o : List ℕ) (s : Point) (told : Option Mark) → HeardOf j write → told ≡ cond (is_this write.name write.stamp o s) (Some (mark_of write)) None
+    → first_of (known_mark j o s) told ≡ known_mark j o s
+mark_again j write o s told heard is =
+    by_test (is_this write.name write.stamp o s)
+    (λ t.
+    let same = (Decides-is_this write.name write.stamp o s).0 t in
+    let (first, known) = told_known_mark j write.name (mark_of write) (told_again j write heard) in
+    first_kept (known_mark j o s) told first (subst (λ (x : List ℕ). known_mark j x s ≡ Some first) same.0 (subst (λ (p : Point). known_mark j write.name p ≡ Some first) (same_point write.stamp s same.1.0 same.1.1) known)))
+    (λ t. ap (λ (x : Option Mark). first_of (known_mark j o s) x) (is ∙ ap (λ (q : Bool). cond q (Some (mark_of write)) None) t) ∙ first_none (known_mark j o s))
+
+raised_same : (j : List Entry) (o : List ℕ) (was : Option Newest) (new : Newest) → IsNewestOf j o was → WasNamed j o new.stamp → was ≡ Some (raised_to was new)
+raised_same j o None new old named = absurd (old new.stamp named)
+raised_same j o (Some m) new old named =
+    by_test (is_before m.stamp new.stamp)
+    (λ t. absurd (old.0.1 new.stamp named (is_before_tells m.stamp new.stamp t)))
+    (λ t. rw t refl)
+
+newest_again : (e : Entry) (j : List Entry) (m : Table) (write : WriteRec) (o : List ℕ)
+    → IsNewestOf j o (newest_of m o) → HeardOf j write
+    → ((r : Option Newest) → IsOnly write o r → IsNewestIn e.event o r)
+    → IsNewestOf (e ∷ j) o (newest_of m o)
+newest_again e j m write o old heard only =
+    let new : Newest = record { stamp = write.stamp; gone = write.gone } in
+    by_test (bytes_eq write.name o)
+    (λ t.
+    let name : write.name ≡ o = (bytes_eq-Decides write.name o).0 t in
+    let named : WasNamed j o write.stamp = subst (λ (x : List ℕ). WasNamed j x write.stamp) name (told_named j write heard) in
+    newest_more e j o (newest_of m o) (Some new) (newest_of m o) (raised_same j o (newest_of m o) new old named ∙ newest_raised (newest_of m o) new) old (only (Some new) (name, refl, refl)))
+    (λ t.
+    let other : write.name ≢ o = λ name. let bad : bytes_eq write.name o ≡ true = (bytes_eq-Decides write.name o).1 name in cc in
+    newest_more e j o (newest_of m o) None (newest_of m o) (later_none (newest_of m o)) old (only None other))
+
+-- a write that was heard of before leaves the table
+pub heard_again : (e : Entry) (j : List Entry) (m : Table) (write : WriteRec)
+    → IsMarksOf j m → HeardOf j write → 1 ≤ write.stamp.clock
+    → ((o : List ℕ) (r : Option Newest) → IsOnly write o r → IsNewestIn e.event o r)
+    → ((o : List ℕ) (s : Point) → mark_told e.event o s ≡ cond (is_this write.name write.stamp o s) (Some (mark_of write)) None)
+    → floor_after e.event ≡ zero_vector
+    → IsMarksOf (e ∷ j) m
+heard_again e j m write f heard one only told floor = record {
+  floor = f.floor ∙ sym (ap (λ (v : List ℕ). join_of (floor_of j) v) floor ∙ floor_same j);
+  newest = λ o. newest_again e j m write o (f.newest o) heard (only o);
+  rises = f.rises;
+  in_range = f.in_range;
+  from_one = λ o s zero. ap (λ (x : Option Mark). first_of x (mark_told e.event o s)) (f.from_one o s zero) ∙ told o s ∙ ap (λ (q : Bool). cond q (Some (mark_of write)) None) (none_at_zero write o s one zero);
+  marks = λ o s. f.marks o s ∙ ap (λ (x : Option Mark). cond (is_covered m.floor s) None x) (sym (mark_again j write o s (mark_told e.event o s) heard (told o s)));
 }
 
 -- an event that tells of no mark and names no stamp leaves the table

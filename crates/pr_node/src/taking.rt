@@ -5,7 +5,9 @@ ghost use Rattle.pr_bodies.specs.Bodies.{IsSettled};
 ghost use Rattle.pr_node.specs.Taking.{AreSettled, HasTaken, IsBodyTaken, IsGap, IsLate, LeavesBodies};
 ghost use Rattle.pr_vectors.specs.Vector.{Le};
 ghost use Rattle.pr_inval.specs.Messages.{IsKind};
-ghost use Rattle.std.specs.Prelude.{◌≡◌, ◌↔◌, None, Some, IsTrue, MatchOption, OnOk};
+ghost use Rattle.pr_marks.specs.Table.{IsMarked};
+ghost use Rattle.pr_story.specs.Knowledge.{mark_of};
+ghost use Rattle.std.specs.Prelude.{◌≡◌, ◌↔◌, false, true, None, Some, IsTrue, MatchOption, OnOk};
 
 use crate::Stores;
 use crate::writing::mark_of;
@@ -70,11 +72,23 @@ fn take_precise(
     let from = from.get();
     let to = to.get();
     let none = NameSet::empty(alloc);
-    let mark = mark_of(write);
+    let known = stores.log.knows(write);
     stores.log.refine(&from, &to, &none, Some(write))?;
     stores.gaps.cover(&from, &to, &none)?;
     stores.bodies.settle(&write.name, &write.stamp);
-    stores.marks.add(&write.name, &mark, write.gone)?;
+    mark(&mut stores.marks, write, known)?;
+    Ok(())
+}
+
+// The mark of a write that was known before stands already.
+fn mark(marks: &mut Marks, write: &WriteRec, known: bool) -> Result<(), NoMemory>
+    ensures known { known ≡ true → marks.new ≡ marks.old }
+    ensures new { OnOk result (known ≡ false → IsMarked marks.old marks.new write.now.name (mark_of write.now) write.now.gone) }
+{
+    if known {
+        return Ok(());
+    }
+    marks.add(&write.name, &mark_of(write), write.gone)?;
     Ok(())
 }
 
