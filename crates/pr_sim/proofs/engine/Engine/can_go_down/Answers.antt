@@ -1,6 +1,5 @@
-use Rattle.std.proofs.Common.{List, refl, sym, ◌∙◌, ap, subst, reverse, arith}
+use Rattle.std.proofs.Common.{refl, sym, ◌∙◌, ap, subst, arith}
 use Rattle.std.specs.Prelude.{Bool, IsTrue, ◌&&◌}
-use Rattle.pr_story.specs.declared.entry.Entry.{Entry}
 use Rattle.pr_sim.proofs.GoesDown.{after_is, can, goes_is}
 use Rattle.pr_sim.specs.Flowing.{may_go_down}
 use Rattle.pr_sim.proofs.OfStreams.{ends_of}
@@ -14,8 +13,8 @@ node_at-node-requires c =
 
 pub returns-then-attached-clause-is : goal.returns-then-attached-clause-is
 returns-then-attached-clause-is c d attached h k =
-    let after = after_is d attached h c.args.self.now c.args.stream c.route.result c.node_at-node.result.now c.entries.result.now c.is_after_gap-after.result k c.requires.stream c.route.ensures c.node_at-node.ensures
-    (ap (λ (es : List Entry). reverse es) c.entries.ensures ∙ c.journal.ensures) c.is_after_gap-after.ensures in
+    let after = after_is d attached h c.args.self.now c.args.stream c.route.result c.node_at-node.result.now c.journal.result.now.items c.is_after_gap-after.result k c.requires.stream c.route.ensures c.node_at-node.ensures
+    c.journal.ensures c.is_after_gap-after.ensures in
     ap (λ (b : Bool). b && c.may_go_down.result) (sym c.if-attached.true)
     ∙ goes_is d attached h c.args.stream c.args.cause c.is_attached-attached.result c.is_after_gap-after.result c.may_go_down.result (c.is_attached-attached.ensures.is d attached h k) after c.may_go_down.ensures
 
@@ -25,8 +24,8 @@ returns-then-attached-clause-can c t d attached h k =
 
 pub returns-else-attached-clause-is : goal.returns-else-attached-clause-is
 returns-else-attached-clause-is c d attached h k =
-    let after = after_is d attached h c.args.self.now c.args.stream c.route.result c.node_at-node.result.now c.entries.result.now c.is_after_gap-after.result k c.requires.stream c.route.ensures c.node_at-node.ensures
-    (ap (λ (es : List Entry). reverse es) c.entries.ensures ∙ c.journal.ensures) c.is_after_gap-after.ensures in
+    let after = after_is d attached h c.args.self.now c.args.stream c.route.result c.node_at-node.result.now c.journal.result.now.items c.is_after_gap-after.result k c.requires.stream c.route.ensures c.node_at-node.ensures
+    c.journal.ensures c.is_after_gap-after.ensures in
     let is = c.is_attached-attached.ensures.is d attached h k in
     c.if-attached.false ∙ ap (λ (b : Bool). b && may_go_down c.args.cause c.is_after_gap-after.result) (sym c.if-attached.false)
     ∙ goes_is d attached h c.args.stream c.args.cause c.is_attached-attached.result c.is_after_gap-after.result (may_go_down c.args.cause c.is_after_gap-after.result) is after refl
