@@ -216,12 +216,20 @@ fn letter(event: &Event) -> u8 {
     }
 }
 
+// Whether this is the kind that stands at this place.
+fn is_kind(letters: &[u8], place: usize, event: &Event) -> bool {
+    match letters.get(place) {
+        Some(wanted) => letter(event) == *wanted,
+        None => false,
+    }
+}
+
 // Whether these are the kinds of the side's events.
 fn has_made(side: &Small, letters: &[u8]) -> bool {
     let journal = &side.journal;
     let mut same = journal.len() == letters.len();
-    for (place, wanted) in (0..journal.len()).zip(letters) {
-        if letter(&journal.entry(place).event) != *wanted {
+    for place in 0..journal.len() {
+        if !is_kind(letters, place, &journal.entry(place).event) {
             same = false;
         }
     }
