@@ -82,13 +82,16 @@ fn take<B: Side>(
     requires { IsMessage msg }
     ensures { Takes B.made B.act dest.old (means session.old) msg dest.new (means session.new) result }
 {
-    match dest.accept(msg)? {
+    let taken = dest.accept(msg)?;
+    match &taken {
         Taken::Accepted { time } => {
-            session.heard(time);
+            session.heard(*time);
+            drop(taken);
             Ok(None)
         }
         Taken::Gap { time, .. } => {
-            session.heard(time);
+            session.heard(*time);
+            drop(taken);
             down(Cause::Gap, dest, session)
         }
     }

@@ -123,8 +123,8 @@ impl Side for Small {
 
     fn accept(&mut self, msg: Msg) -> Result<Taken, NodeFault> {
         self.journal.reserve()?;
-        let (time, zero) = (msg.time, Vector::zero());
-        let has = PackedVector::of(self.alloc, &zero)?;
+        let time = msg.time;
+        let has = PackedVector::zero();
         if self.has_gap {
             self.journal.push(Entry {
                 time,
@@ -132,8 +132,8 @@ impl Side for Small {
                 event: Event::Gapped { msg, has },
             });
             return Ok(Taken::Gap {
-                needs: zero,
-                has: zero,
+                needs: PackedVector::zero(),
+                has: PackedVector::zero(),
                 time,
             });
         }

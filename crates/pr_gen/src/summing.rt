@@ -114,7 +114,7 @@ fn push_node<H: Held>(decls: &Decls, held: &H, node: u32, out: &mut Bytes) -> Re
     match held.journal(node) {
         None => unreachable!(),
         Some(journal) => {
-            push_about(b"vector", decls, Kind::Node, node, out)?;
+            push_about(b"vector ", decls, Kind::Node, node, out)?;
             out.push(b' ')?;
             push_vector(decls, &vector_of(journal), out)?;
             out.push(b'\n')

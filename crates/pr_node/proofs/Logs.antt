@@ -1,8 +1,9 @@
 -- The log stays tied over one more entry.
 use Rattle.std.proofs.Common.{◌≡◌, ℕ, ◌⊎◌, inl, inr, List, [], ◌∷◌, refl, sym, ◌∙◌, ap, subst}
-use Rattle.std.specs.Prelude.{true, false, IsTrue, ◌↔◌, Option, Some}
+use Rattle.std.specs.Prelude.{true, false, IsTrue, ◌↔◌, Option, None, Some}
 use Rattle.pr_stamps.specs.Point.{Point}
 use Rattle.pr_vectors.specs.Vector.{clock_of, Covers, join_of, zero_vector}
+use Rattle.pr_names.specs.Span.{Span}
 use Rattle.pr_sets.specs.Spans.{has}
 use Rattle.pr_inval.specs.declared.kind.Kind.{Kind}
 use Rattle.pr_inval.specs.declared.kind.Kind.TheVariants.{Precise}
@@ -182,4 +183,21 @@ same_log n e j m brought cut dark told f = record {
     λ k. inl ((f.knows x above).0 k),
     λ k. elim k [ inl old ↦ (f.knows x above).1 old | inr now ↦ absurd (told x now.0) ],
   );
+}
+
+-- a write that was known before is learnt already
+pub refined_again : (a b : Logged) (from to : List ℕ) (target : List Span) (write : WriteRec) → IsRefined a b from to target None → KnowsIn a write → IsRefined a b from to target (Some write)
+refined_again a b from to target write refined known = record {
+  node = refined.node;
+  cut = refined.cut;
+  vector = refined.vector;
+  lit = refined.lit;
+  knows = λ x. (
+    λ k. elim ((refined.knows x).0 k) [ inl old ↦ inl old | inr new ↦ absurd (let bad : None ≡ Some x = new.0 in cc) ],
+    λ k. elim k [
+      | inl old ↦ (refined.knows x).1 (inl old)
+      | inr new ↦ (let is : Some write ≡ Some x = new.0 in let same : write.stamp ≡ x.stamp = cc in absurd (new.2 write known same))
+    ],
+  );
+  few = refined.few;
 }

@@ -14,22 +14,24 @@ use Rattle.pr_inval.specs.declared.kind.Kind.{Kind}
 use Rattle.pr_inval.specs.declared.kind.Kind.TheVariants.{Precise, Imprecise, Checkpoint, Body}
 use Rattle.pr_inval.specs.declared.msg.Msg.{Msg}
 use Rattle.pr_inval.specs.declared.row.Row.{Row}
+use Rattle.pr_inval.specs.declared.step.Step.{Step}
+use Rattle.pr_inval.specs.declared.step.Step.TheVariants as step
 use Rattle.pr_inval.specs.declared.write_rec.WriteRec.{WriteRec}
 use Rattle.pr_inval.specs.Points.{to_of}
 use Rattle.pr_inval.specs.Standing.{SessionMeaning, Standing}
-use Rattle.pr_node.specs.Sending.{IsNextTurn}
+use Rattle.pr_node.specs.Sending.{IsNextTurn, IsStepInRange}
 use Rattle.pr_story.specs.declared.entry.Entry.{Entry}
 use Rattle.pr_story.specs.declared.event.Event.{Event}
-use Rattle.pr_story.specs.declared.event.Event.TheVariants.{Wrote, Sent, Idle, Stale, Accepted, Cut}
+use Rattle.pr_story.specs.declared.event.Event.TheVariants.{Wrote, Accepted, Cut}
 use Rattle.pr_story.specs.History.{Accepts, HasAccepted, Writes, SomeEvent, clock_brought, current_clock, current_vector}
 use Rattle.pr_story.specs.Knowledge.{IsOf, HasRow, TellsOf, HeardOf, NamesStamp, WasNamed, IsMark, floor_in, floor_after, floor_of}
-use Rattle.pr_story.specs.Ranges.{IsInRange, IsKind as IsKindInRange, IsMsg, IsRow as IsRowInRange, IsStampOrNone}
-use Rattle.pr_story.specs.Turns.{IsTurn, SendTurn, IsSnapshot, IsSnapshotRow}
+use Rattle.pr_story.specs.Ranges.{IsKind as IsKindInRange, IsMsg, IsRow as IsRowInRange, IsStampOrNone}
+use Rattle.pr_story.specs.Turns.{IsTurn, SendTurn, IsSnapshot, IsSnapshotRow, event_of}
 use Rattle.pr_story.proofs.Basics.{clock_zero}
 use Rattle.pr_story.proofs.Known.{known_told, held_how}
 use Rattle.pr_story.proofs.Naming.{TellsMark, WasToldMark, known_mark_told}
 use Rattle.pr_inval.specs.Messages.{IsAscending, IsCheckpoint, IsEarlierMark, IsEarlierRow, IsKind, IsMark as IsMarkOfRow, IsMessage, IsRow}
-use Rattle.pr_node.specs.Grammar.{HasBytes, IsSendSpelled, IsSpelled, IsSpelledEvent}
+use Rattle.pr_node.specs.Grammar.{HasBytes, IsSpelled, IsSpelledEvent, IsStepSpelled}
 use Rattle.pr_node.specs.declared.stores.Stores.{Stores}
 use Rattle.pr_node.specs.Ties.{IsMarkInRange, IsTied}
 use Rattle.pr_node.proofs.Clocks.{vector_grows}
@@ -374,17 +376,16 @@ message_spelled kind msg number heard k same next low up most = record {
   kind = subst (λ (q : Kind). IsKind q) (sym same) k;
 }
 
-pub turn_spelled : (n : ℕ) (j : List Entry) (a : SessionMeaning) (time : ℕ) (event : Event) → IsSpelled j → IsInRange event → a.standing.number ≤ a.standing.time → a.standing.time < time → time ≤ 4611686018427387903
-    → IsNextTurn n j a time event → IsSendSpelled event
-turn_spelled n j a time (Sent msg) spelled range low up most next =
+pub turn_spelled : (n : ℕ) (j : List Entry) (a : SessionMeaning) (time stream : ℕ) (s : Step) → IsSpelled j → IsStepInRange s → a.standing.number ≤ a.standing.time → a.standing.time < time → time ≤ 4611686018427387903
+    → IsNextTurn n j a time (event_of stream s) → IsStepSpelled s
+turn_spelled n j a time stream (step.Sent msg) spelled range low up most next =
     message_spelled msg.kind msg a.standing.number a.standing.time (turn_kind n j a.standing msg.kind spelled range.3 next.3) refl next.1 low
     (subst (λ (t : ℕ). a.standing.time < t) (sym next.2) up) (subst (λ (t : ℕ). t ≤ 4611686018427387903) (sym next.2) most)
-turn_spelled n j a time (Idle stream) spelled range low up most next = tt
-turn_spelled n j a time (Stale stream cut) spelled range low up most next = tt
-turn_spelled n j a time _ spelled range low up most next = absurd next
+turn_spelled n j a time stream step.Idle spelled range low up most next = tt
+turn_spelled n j a time stream (step.Stale cut) spelled range low up most next = tt
 
 -- so it is of a turn that may be refused
-pub any_spelled : {E : Type 0} (r : Result Event E) (j : List Entry) (s : Stores) (a : SessionMeaning) (time : ℕ) → a.standing.number ≤ a.standing.time → a.standing.time < time → time ≤ 4611686018427387903
-    → IfOk r (λ event. (n : ℕ) → IsTied n j s → IsNextTurn n j a time event) → IfOk r IsInRange → IfOk r (λ event. (n : ℕ) → IsTied n j s → IsSendSpelled event)
-any_spelled (Ok event) j s a time low up most next range = λ n tied. turn_spelled n j a time event tied.spelled range low up most (next n tied)
+pub any_spelled : {E : Type 0} (r : Result Step E) (j : List Entry) (s : Stores) (a : SessionMeaning) (time : ℕ) → a.standing.number ≤ a.standing.time → a.standing.time < time → time ≤ 4611686018427387903
+    → IfOk r (λ x. (n : ℕ) → IsTied n j s → IsNextTurn n j a time (event_of a.stream x)) → IfOk r IsStepInRange → IfOk r (λ x. (n : ℕ) → IsTied n j s → IsStepSpelled x)
+any_spelled (Ok x) j s a time low up most next range = λ n tied. turn_spelled n j a time a.stream x tied.spelled range low up most (next n tied)
 any_spelled (Err fault) j s a time low up most next range = tt

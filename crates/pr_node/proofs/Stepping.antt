@@ -1,5 +1,5 @@
 -- A turn is one lawful entry, and its session goes on by it.
-use Rattle.std.proofs.Common.{◌≡◌, ℕ, ◌+◌, inl, List, refl, ◌∙◌, ap, subst, reverse}
+use Rattle.std.proofs.Common.{◌≡◌, ◌<◌, ℕ, ◌+◌, ◌^◌, inl, List, refl, ◌∙◌, ap, subst, reverse}
 use Rattle.std.specs.Prelude.{true, IsTrue}
 use Rattle.pr_names.specs.Span.{Span}
 use Rattle.pr_inval.specs.declared.kind.Kind.{Kind}
@@ -17,9 +17,9 @@ use Rattle.pr_node.specs.declared.answers.turned.Turned.{Turned}
 use Rattle.pr_node.specs.declared.answers.turned.Turned.TheVariants as turned
 use Rattle.pr_node.specs.declared.stores.Stores.{Stores}
 use Rattle.pr_node.specs.Calls.{IsStep, IsTurned}
-use Rattle.pr_node.specs.Grammar.{IsSendSpelled, IsStepSpelled}
+use Rattle.pr_node.specs.Grammar.{IsStepSpelled}
 use Rattle.pr_node.specs.Quiet.{IsQuiet}
-use Rattle.pr_node.specs.Sending.{IsNextTurn, IsOfKind, IsTurnOf}
+use Rattle.pr_node.specs.Sending.{IsNextTurn, IsOfKind, IsStepInRange, IsTurnOf}
 use Rattle.pr_node.specs.Ties.{IsTied}
 use Rattle.pr_node.proofs.Adding.{IsReady}
 use Rattle.pr_story.specs.Sessions.{HasGoneOn, IsAfter}
@@ -32,16 +32,15 @@ pub tied_so : (n : ℕ) (old entries : List Entry) (s : Stores) (P : List Entry 
 tied_so n old entries s P is so = subst (λ (x : List Entry). IsTied n (reverse x) s → P (reverse x)) is so
 
 -- a session whose room alone has changed
-pub turn_at : (n : ℕ) (j : List Entry) (a b : SessionMeaning) (time : ℕ) (event : Event) → IsSameSession a b → IsNextTurn n j b time event → IsNextTurn n j a time event
-turn_at n j a b time (Sent msg) same so = (
+pub turn_at : (n : ℕ) (j : List Entry) (a b : SessionMeaning) (time : ℕ) (s : Step) → IsSameSession a b → IsNextTurn n j b time (event_of b.stream s) → IsNextTurn n j a time (event_of a.stream s)
+turn_at n j a b time (step.Sent msg) same so = (
   so.0 ∙ same.stream,
   subst (λ (x : Standing). msg.number ≡ x.number + 1) same.standing so.1,
   so.2,
   subst (λ (x : Standing). IsTurn n j x (SendTurn msg.kind)) same.standing so.3,
 )
-turn_at n j a b time (Idle stream) same so = (so.0 ∙ same.stream, subst (λ (x : Standing). IsTurn n j x IdleTurn) same.standing so.1)
-turn_at n j a b time (Stale stream cut) same so = (so.0 ∙ same.stream, subst (λ (x : Standing). IsTurn n j x (StaleTurn cut)) same.standing so.1)
-turn_at n j a b time _ same so = absurd so
+turn_at n j a b time step.Idle same so = (refl, subst (λ (x : Standing). IsTurn n j x IdleTurn) same.standing so.1)
+turn_at n j a b time (step.Stale cut) same so = (refl, subst (λ (x : Standing). IsTurn n j x (StaleTurn cut)) same.standing so.1)
 
 pub has_gone_on : (a m b : SessionMeaning) (e : Entry) → IsSameSession a m → IsTrue a.attached → HasGoneOn m b m.attached e → HasGoneOn a b true e
 has_gone_on a m b e same attached so = record {
@@ -65,6 +64,11 @@ turn_ready needs n j sets a time caller (Idle stream) range so = record { in_ran
 turn_ready needs n j sets a time caller (Stale stream cut) range so = record { in_range = range; may_come = so.1 }
 turn_ready needs n j sets a time caller _ range so = absurd so
 
+pub step_in_range : (stream : ℕ) (s : Step) → stream < 2 ^ 32 → IsStepInRange s → IsInRange (event_of stream s)
+step_in_range stream (step.Sent msg) lt range = range
+step_in_range stream step.Idle lt range = lt
+step_in_range stream (step.Stale cut) lt range = (lt, range)
+
 pub turn_heard : (n : ℕ) (j : List Entry) (a : SessionMeaning) (time : ℕ) (event : Event) → IsNextTurn n j a time event → a.standing.time ≡ heard_time (λ x. a.standing) event
 turn_heard n j a time (Sent msg) so = refl
 turn_heard n j a time (Idle stream) so = refl
@@ -85,19 +89,14 @@ no_checkpoint n j st (Imprecise from to target) so = tt
 no_checkpoint n j st (Checkpoint to target floor rows) so = absurd so
 no_checkpoint n j st (Body name stamp bytes) so = tt
 
-pub turn_is : (n : ℕ) (j : List Entry) (a : SessionMeaning) (time caller : ℕ) (s : Step) (event : Event) → event ≡ event_of a.stream s → IsNextTurn n j a time event → IsStep a.stream s (record { time = time; caller = caller; event = event })
-turn_is n j a time caller (step.Sent msg) event is so = let sent : IsNextTurn n j a time (Sent msg) = subst (λ (x : Event). IsNextTurn n j a time x) is so in (is, sent.0, no_checkpoint n j a.standing msg.kind sent.3)
-turn_is n j a time caller step.Idle event is so = is
-turn_is n j a time caller (step.Stale cut) event is so = is
+pub turn_is : (n : ℕ) (j : List Entry) (a : SessionMeaning) (time caller stream : ℕ) (s : Step) → stream ≡ a.stream → IsNextTurn n j a time (event_of stream s) → IsStep a.stream s (record { time = time; caller = caller; event = event_of stream s })
+turn_is n j a time caller stream (step.Sent msg) is so = (refl, so.0, no_checkpoint n j a.standing msg.kind so.3)
+turn_is n j a time caller stream step.Idle is so = ap (λ (k : ℕ). Idle k) is
+turn_is n j a time caller stream (step.Stale cut) is so = ap (λ (k : ℕ). Stale k cut) is
 
-pub step_spelled : (stream : ℕ) (s : Step) (event : Event) → event ≡ event_of stream s → IsSendSpelled event → IsStepSpelled s
-step_spelled stream (step.Sent msg) event is good = subst (λ (x : Event). IsSendSpelled x) is good
-step_spelled stream step.Idle event is good = tt
-step_spelled stream (step.Stale cut) event is good = tt
-
-pub turn_told : (n : ℕ) (j : List Entry) (a : SessionMeaning) (time caller : ℕ) (t : Turned) (event : Event) → IsOfKind t event → IsNextTurn n j a time event → IsSendSpelled event
-    → IsTurned a.stream t (record { time = time; caller = caller; event = event })
-turn_told n j a time caller turned.Sent (Sent msg) kind so good = (msg, (refl, so.0, no_checkpoint n j a.standing msg.kind so.3), good)
-turn_told n j a time caller turned.Idle (Idle stream) kind so good = ap (λ (k : ℕ). Idle k) so.0
-turn_told n j a time caller turned.Stale (Stale stream cut) kind so good = (cut, ap (λ (k : ℕ). Stale k cut) so.0)
-turn_told n j a time caller _ _ kind so good = absurd kind
+pub turn_told : (n : ℕ) (j : List Entry) (a : SessionMeaning) (time caller stream : ℕ) (t : Turned) (s : Step) → IsOfKind t (event_of stream s) → stream ≡ a.stream → IsNextTurn n j a time (event_of stream s) → IsStepSpelled s
+    → IsTurned a.stream t (record { time = time; caller = caller; event = event_of stream s })
+turn_told n j a time caller stream turned.Sent (step.Sent msg) kind is so good = (msg, turn_is n j a time caller stream (step.Sent msg) is so, good)
+turn_told n j a time caller stream turned.Idle step.Idle kind is so good = turn_is n j a time caller stream step.Idle is so
+turn_told n j a time caller stream turned.Stale (step.Stale cut) kind is so good = (cut, turn_is n j a time caller stream (step.Stale cut) is so)
+turn_told n j a time caller stream _ _ kind is so good = absurd kind

@@ -7,7 +7,7 @@ use Rattle.pr_inval.specs.declared.step.Step.{Step}
 use Rattle.pr_inval.specs.declared.step.Step.TheVariants as step
 use Rattle.pr_story.specs.declared.entry.Entry.{Entry}
 use Rattle.pr_story.specs.declared.event.Event.{Event}
-use Rattle.pr_story.specs.declared.event.Event.TheVariants.{Wrote, Sent, Accepted, Cut}
+use Rattle.pr_story.specs.declared.event.Event.TheVariants.{Wrote, Accepted, Cut}
 use Rattle.pr_story.specs.History.{current_vector}
 use Rattle.pr_story.specs.Ranges.{IsBytes}
 use Rattle.pr_inval.specs.Messages.{IsKind, IsMessage}
@@ -28,11 +28,6 @@ IsSpelled (e ∷ j) = IsSpelledEvent j e.event × IsSpelled j
 abbrev pub IsStepSpelled : Step → Type 0
 IsStepSpelled (step.Sent msg) = IsMessage msg
 IsStepSpelled _ = Unit {0}
-
--- the message that the event sends, if it sends one, is one
-abbrev pub IsSendSpelled : Event → Type 0
-IsSendSpelled (Sent msg) = IsMessage msg
-IsSendSpelled _ = Unit {0}
 
 -- a body's bytes are bytes
 abbrev pub HasBytes : Kind → Type 0

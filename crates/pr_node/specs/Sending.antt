@@ -3,14 +3,17 @@ use Rattle.std.specs.Prelude.{ℕ, List, [], ◌≡◌, ◌⊎◌, ◌+◌, Opti
 use Rattle.pr_names.specs.Span.{Span}
 use Rattle.pr_sets.specs.Spans.{IsSetOf}
 use Rattle.pr_log.specs.Many.{HasMany}
+use Rattle.pr_vectors.specs.Vector.{IsVector}
 use Rattle.pr_inval.specs.declared.kind.Kind.{Kind}
 use Rattle.pr_inval.specs.declared.kind.Kind.TheVariants.{Imprecise, Body}
+use Rattle.pr_inval.specs.declared.step.Step.{Step}
+use Rattle.pr_inval.specs.declared.step.Step.TheVariants as step
 use Rattle.pr_inval.specs.Standing.{Standing, SessionMeaning}
 use Rattle.pr_inval.specs.Targets.{IsTargetFor}
 use Rattle.pr_story.specs.declared.entry.Entry.{Entry}
 use Rattle.pr_story.specs.declared.event.Event.{Event}
 use Rattle.pr_story.specs.declared.event.Event.TheVariants.{Sent, Idle, Stale}
-use Rattle.pr_story.specs.Ranges.{IsKind}
+use Rattle.pr_story.specs.Ranges.{IsKind, IsMsg}
 use Rattle.pr_story.specs.Sending.{HasBody}
 use Rattle.pr_story.specs.Turns.{IsNextBody, IsTurn, StaleTurn, IdleTurn, SendTurn}
 use Rattle.pr_node.specs.declared.ahead.Withheld.{Withheld}
@@ -69,3 +72,9 @@ IsOfKind turned.Sent (Sent msg) = Unit {0}
 IsOfKind turned.Idle (Idle stream) = Unit {0}
 IsOfKind turned.Stale (Stale stream cut) = Unit {0}
 IsOfKind _ _ = ⊥
+
+-- what the step tells is in range
+abbrev pub IsStepInRange : Step → Type 0
+IsStepInRange (step.Sent msg) = IsMsg msg
+IsStepInRange step.Idle = Unit {0}
+IsStepInRange (step.Stale cut) = IsVector cut

@@ -8,11 +8,12 @@ ghost use Rattle.pr_names.specs.Name.{IsName};
 ghost use Rattle.pr_node.specs.Sending.{IsImpreciseOf, IsOmittedSet, IsSentOf};
 ghost use Rattle.pr_node.specs.Ties.{IsLogOf};
 ghost use Rattle.pr_sets.specs.Spans.{IsSetOf, Meet, has};
-ghost use Rattle.pr_story.specs.Ranges.{IsInRange};
+ghost use Rattle.pr_story.specs.Ranges.{IsMsg};
 ghost use Rattle.pr_story.specs.Sending.{IsAhead};
 ghost use Rattle.pr_story.specs.Told.{IsDarkBetween};
 ghost use Rattle.pr_story.specs.Turns.{IsOmitted};
 ghost use Rattle.pr_story.specs.declared.entry.Entry.{Entry};
+ghost use Rattle.pr_story.specs.declared.event.Event.TheVariants.{Sent};
 ghost use Rattle.pr_vectors.specs.Vector.{Le, join_of};
 ghost use Rattle.std.specs.Prelude.{◌≡◌, ◌⊎◌, ◌↔◌, ℕ, List, None, IfOk, IsOk, IsTrue, false};
 
@@ -23,7 +24,6 @@ use pr_log::Log;
 use pr_names::Name;
 use pr_sets::NameSet;
 use pr_stamps::{NoMemory, Stamp};
-use pr_story::Event;
 use pr_vectors::{PackedVector, Vector};
 use std::alloc::Global;
 
@@ -35,8 +35,8 @@ pub struct Withheld {
     pub omitted: NameSet,
 }
 
-// The event that sends the invalidation for these names from a position that the vector is past, as the session's next
-// message. The event is made where it is answered, and in calls of their own, since each move of one copies it.
+// The invalidation for these names from a position that the vector is past, as the session's next message. It is made where
+// it is answered, and in calls of their own, since each move copies it.
 #[inline(never)]
 pub fn ahead(
     alloc: Global,
@@ -46,11 +46,11 @@ pub fn ahead(
     session: &Session,
     scan: &mut Scan,
     time: u64,
-) -> Result<Event, NoMemory>
+) -> Result<Msg, NoMemory>
     requires cut { Le log.now.cut position.now }
     ensures scan { scan.new ≡ scan.old }
-    ensures next { IfOk result (λ event. (n : ℕ) (j : List Entry) → IsLogOf n j log.now → IsSentOf (IsAhead n j names.now position.now) (means session.now) time event) }
-    ensures range { IfOk result IsInRange }
+    ensures next { IfOk result (λ msg. (n : ℕ) (j : List Entry) → IsLogOf n j log.now → IsSentOf (IsAhead n j names.now position.now) (means session.now) time (Sent msg)) }
+    ensures range { IfOk result IsMsg }
 {
     let vector = log.vector();
     let Some(write) = scan.next_write(log, position, names) else {
@@ -66,7 +66,7 @@ pub fn ahead(
     imprecise(alloc, &found, names, position, &before, session, time)
 }
 
-// The event that sends the invalidation up to the log's vector, where no write waits. It has a vector of its own, which
+// The invalidation up to the log's vector, where no write waits. It has a vector of its own, which
 // a call that finds a write need not clear.
 #[inline(never)]
 fn rest(
@@ -76,11 +76,11 @@ fn rest(
     position: &Vector,
     session: &Session,
     time: u64,
-) -> Result<Event, NoMemory>
+) -> Result<Msg, NoMemory>
     requires cut { Le log.now.cut position.now }
     requires none { IsNextOf log.now.known position.now names.now None }
-    ensures next { IfOk result (λ event. (n : ℕ) (j : List Entry) → IsLogOf n j log.now → IsSentOf (IsAhead n j names.now position.now) (means session.now) time event) }
-    ensures range { IfOk result IsInRange }
+    ensures next { IfOk result (λ msg. (n : ℕ) (j : List Entry) → IsLogOf n j log.now → IsSentOf (IsAhead n j names.now position.now) (means session.now) time (Sent msg)) }
+    ensures range { IfOk result IsMsg }
 {
     let vector = log.vector();
     let mut to = *position;
@@ -154,10 +154,10 @@ fn imprecise(
     to: &Vector,
     session: &Session,
     time: u64,
-) -> Result<Event, NoMemory>
+) -> Result<Msg, NoMemory>
     requires { ¬ Meet (has found.now.omitted) (has names.now) }
-    ensures value { IfOk result (IsSentOf (IsImpreciseOf found.now names.now from.now to.now) (means session.now) time) }
-    ensures range { IfOk result IsInRange }
+    ensures value { IfOk result (λ msg. IsSentOf (IsImpreciseOf found.now names.now from.now to.now) (means session.now) time (Sent msg)) }
+    ensures range { IfOk result IsMsg }
 {
     let target = target_for(alloc, &found.omitted, &found.dark, names)?;
     let _ = target.parts();
@@ -166,16 +166,14 @@ fn imprecise(
     let _ = from.at(0);
     let _ = to.at(0);
     let _ = session.time();
-    Ok(Event::Sent {
-        msg: Msg {
-            time,
-            stream: session.stream(),
-            number: session.number() + 1,
-            kind: Kind::Imprecise {
-                from: packed_from,
-                to: packed_to,
-                target,
-            },
+    Ok(Msg {
+        time,
+        stream: session.stream(),
+        number: session.number() + 1,
+        kind: Kind::Imprecise {
+            from: packed_from,
+            to: packed_to,
+            target,
         },
     })
 }
@@ -188,9 +186,9 @@ fn precise(
     write: &WriteRec,
     session: &Session,
     time: u64,
-) -> Result<Event, NoMemory>
-    ensures value { IfOk result (IsSentOf (λ kind. kind ≡ Precise from.now to.now write.now) (means session.now) time) }
-    ensures range { IfOk result IsInRange }
+) -> Result<Msg, NoMemory>
+    ensures value { IfOk result (λ msg. IsSentOf (λ kind. kind ≡ Precise from.now to.now write.now) (means session.now) time (Sent msg)) }
+    ensures range { IfOk result IsMsg }
 {
     let packed_from = PackedVector::of(alloc, from)?;
     let packed_to = PackedVector::of(alloc, to)?;
@@ -198,16 +196,14 @@ fn precise(
     let _ = to.at(0);
     let _ = session.time();
     write_in_range(write);
-    Ok(Event::Sent {
-        msg: Msg {
-            time,
-            stream: session.stream(),
-            number: session.number() + 1,
-            kind: Kind::Precise {
-                from: packed_from,
-                to: packed_to,
-                write: *write,
-            },
+    Ok(Msg {
+        time,
+        stream: session.stream(),
+        number: session.number() + 1,
+        kind: Kind::Precise {
+            from: packed_from,
+            to: packed_to,
+            write: *write,
         },
     })
 }

@@ -2,10 +2,11 @@
 ghost use Rattle.pr_inval.specs.declared.node_fault.NodeFault.TheVariants as faults;
 ghost use Rattle.pr_node.specs.Calls.{IsHalted};
 ghost use Rattle.pr_story.specs.Lawful.{last_time};
+ghost use Rattle.pr_story.specs.Turns.{event_of};
 ghost use Rattle.pr_story.specs.declared.event.Event.TheVariants.{Accepted, Answered, Attached, Behind, Cut, Gapped, Sent, State, Wrote};
 ghost use Rattle.std.specs.Prelude.{◌≡◌, ◌≤◌, ◌<◌, ◌+◌, ◌++◌, ◌∷◌, [], Err, true, false, IfErr, IfOk, OnErr, OnOk, max, reverse};
 
-use pr_inval::{Bytes, Msg, NodeFault, WriteRec};
+use pr_inval::{Bytes, Msg, NodeFault, Step, WriteRec};
 use pr_names::Name;
 use pr_stamps::{MAX, NoMemory, Seq};
 use pr_story::{Entry, Event, Journal, Reply};
@@ -118,6 +119,20 @@ impl Diary {
         });
         self.last = time;
         self.spent = false;
+    }
+
+    // Makes the entry of a turn of the stream.
+    pub fn turned(&mut self, time: u64, caller: u32, stream: u32, step: Step)
+        requires room { 0 < self.old.entries.room }
+        requires early { time ≤ 4611686018427387903 }
+        ensures items { self.new.entries.items ≡ self.old.entries.items ++ (record { time = time; caller = caller; event = event_of stream step }) ∷ [] }
+        ensures spent { self.new.spent ≡ false }
+    {
+        match step {
+            Step::Sent(msg) => self.sent(time, caller, msg),
+            Step::Idle => self.finish(time, caller, Event::Idle { stream }),
+            Step::Stale { cut } => self.finish(time, caller, Event::Stale { stream, cut }),
+        }
     }
 
     // Makes the entry that a message was sent.

@@ -208,11 +208,12 @@ impl Node {
         let time = self.diary.begin(msg.time)?;
         let has = self.stores.log.vector();
         if let Some(needs) = gap(&msg.kind, has) {
-            let needs = needs.get();
+            let needs = needs.copy(self.alloc)?;
+            let had = PackedVector::of(self.alloc, has)?;
             self.diary.gapped(time, caller, msg, has)?;
             return Ok(Taken::Gap {
                 needs,
-                has: *has,
+                has: had,
                 time,
             });
         }

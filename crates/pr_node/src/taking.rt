@@ -5,6 +5,7 @@ ghost use Rattle.pr_bodies.specs.Bodies.{IsSettled};
 ghost use Rattle.pr_node.specs.Taking.{AreSettled, HasTaken, IsBodyTaken, IsGap, IsLate, LeavesBodies};
 ghost use Rattle.pr_vectors.specs.Vector.{Le};
 ghost use Rattle.pr_inval.specs.Messages.{IsKind};
+ghost use Rattle.pr_log.specs.Log.{IsRefined, Knows};
 ghost use Rattle.pr_marks.specs.Table.{IsMarked};
 ghost use Rattle.pr_story.specs.Knowledge.{mark_of};
 ghost use Rattle.std.specs.Prelude.{◌≡◌, ◌↔◌, false, true, None, Some, IsTrue, MatchOption, OnOk};
@@ -13,6 +14,7 @@ use crate::Stores;
 use crate::writing::mark_of;
 use pr_bodies::Bodies;
 use pr_inval::{Kind, Row, WriteRec};
+use pr_log::Log;
 use pr_marks::{Marks, Newest};
 use pr_names::Name;
 use pr_sets::NameSet;
@@ -73,10 +75,32 @@ fn take_precise(
     let to = to.get();
     let none = NameSet::empty(alloc);
     let known = stores.log.knows(write);
-    stores.log.refine(&from, &to, &none, Some(write))?;
+    refine(&mut stores.log, &from, &to, &none, write, known)?;
     stores.gaps.cover(&from, &to, &none)?;
     stores.bodies.settle(&write.name, &write.stamp);
     mark(&mut stores.marks, write, known)?;
+    Ok(())
+}
+
+// A write that was known before is looked up no more.
+fn refine(
+    log: &mut Log,
+    from: &Vector,
+    to: &Vector,
+    target: &NameSet,
+    write: &WriteRec,
+    known: bool,
+) -> Result<(), NoMemory>
+    requires span { Le from.now to.now }
+    requires from { Le from.now log.old.vector }
+    requires known { known ≡ true → Knows log.old write.now }
+    ensures ok { OnOk result (IsRefined log.old log.new from.now to.now target.now (Some write.now)) }
+{
+    if known {
+        log.refine(from, to, target, None)?;
+        return Ok(());
+    }
+    log.refine(from, to, target, Some(write))?;
     Ok(())
 }
 

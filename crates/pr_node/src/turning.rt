@@ -1,11 +1,11 @@
 // The turn of a stream at its source.
 ghost use Rattle.pr_inval.specs.Standing.{IsSameSession, means};
 ghost use Rattle.pr_inval.specs.declared.kind.Kind.{Kind};
-ghost use Rattle.pr_node.specs.Grammar.{IsSendSpelled};
+ghost use Rattle.pr_node.specs.Grammar.{IsStepSpelled};
 ghost use Rattle.pr_node.specs.Scanning.{IsScanOf};
-ghost use Rattle.pr_node.specs.Sending.{IsBodyTurn, IsNextTurn, IsOfKind, IsTurnOf};
+ghost use Rattle.pr_node.specs.Sending.{IsBodyTurn, IsNextTurn, IsOfKind, IsStepInRange, IsTurnOf};
 ghost use Rattle.pr_node.specs.Ties.{IsTied};
-ghost use Rattle.pr_story.specs.Ranges.{IsInRange, IsKind, IsMsg};
+ghost use Rattle.pr_story.specs.Ranges.{IsKind, IsMsg};
 ghost use Rattle.pr_story.specs.Turns.{IdleTurn, IsTurn, event_of};
 ghost use Rattle.pr_story.specs.declared.entry.Entry.{Entry};
 ghost use Rattle.pr_story.specs.declared.event.Event.TheVariants.{Idle, Sent};
@@ -17,12 +17,12 @@ use crate::waiting_bodies::next_body;
 use crate::{Scan, Stores, Turned};
 use pr_inval::{Kind, Msg, Session, Step};
 use pr_stamps::NoMemory;
-use pr_story::{Event, Journal};
+use pr_story::Journal;
 use pr_vectors::PackedVector;
 use std::alloc::Global;
 
-// The event of the turn of a stream with this session, at its source, where its node has done this. The session
-// has room to note it.
+// The turn of a stream with this session, at its source, where its node has done this. The session has room to note it.
+// A step goes from call to call, and not its event, which is larger.
 pub fn next_turn(
     alloc: Global,
     stores: &Stores,
@@ -30,13 +30,13 @@ pub fn next_turn(
     session: &mut Session,
     scan: &mut Scan,
     time: u64,
-) -> Result<Event, NoMemory>
+) -> Result<Step, NoMemory>
     requires later { (means session.old).standing.time < time }
     requires most { time ≤ 4611686018427387903 }
     requires scan { IsScanOf scan.old (means session.old).standing (reverse journal.now.items) }
-    ensures next { IfOk result (λ event. (n : ℕ) → IsTied n (reverse journal.now.items) stores.now → IsNextTurn n (reverse journal.now.items) (means session.old) time event) }
-    ensures spelled { IfOk result (λ event. (n : ℕ) → IsTied n (reverse journal.now.items) stores.now → IsSendSpelled event) }
-    ensures range { IfOk result IsInRange }
+    ensures next { IfOk result (λ step. (n : ℕ) → IsTied n (reverse journal.now.items) stores.now → IsNextTurn n (reverse journal.now.items) (means session.old) time (event_of (means session.old).stream step)) }
+    ensures spelled { IfOk result (λ step. (n : ℕ) → IsTied n (reverse journal.now.items) stores.now → IsStepSpelled step) }
+    ensures range { IfOk result IsStepInRange }
     ensures same { IsSameSession (means session.old) (means session.new) }
     ensures room { OnOk result (0 < (means session.new).room) }
     ensures scan { (n : ℕ) → IsTied n (reverse journal.now.items) stores.now → IsScanOf scan.new (means session.new).standing (reverse journal.now.items) }
@@ -54,21 +54,20 @@ fn next_event(
     session: &Session,
     scan: &mut Scan,
     time: u64,
-) -> Result<Event, NoMemory>
+) -> Result<Step, NoMemory>
     requires scan { IsScanOf scan.old (means session.now).standing (reverse journal.now.items) }
-    ensures next { IfOk result (λ event. (n : ℕ) → IsTied n (reverse journal.now.items) stores.now → IsNextTurn n (reverse journal.now.items) (means session.now) time event) }
+    ensures next { IfOk result (λ step. (n : ℕ) → IsTied n (reverse journal.now.items) stores.now → IsNextTurn n (reverse journal.now.items) (means session.now) time (event_of (means session.now).stream step)) }
     ensures scan { (n : ℕ) → IsTied n (reverse journal.now.items) stores.now → IsScanOf scan.new (means session.now).standing (reverse journal.now.items) }
-    ensures range { IfOk result IsInRange }
+    ensures range { IfOk result IsStepInRange }
 {
-    let stream = session.stream();
     let position = session.pos();
     let cut = stores.log.cut_at();
     if !cut.le(position) {
         let cut = PackedVector::of(alloc, cut)?;
-        return Ok(Event::Stale { stream, cut });
+        return Ok(Step::Stale { cut });
     }
     if !stores.log.vector().le(position) {
-        return ahead(
+        let msg = ahead(
             alloc,
             &stores.log,
             session.sub(),
@@ -76,12 +75,13 @@ fn next_event(
             session,
             scan,
             time,
-        );
+        )?;
+        return Ok(Step::Sent(msg));
     }
     if session.bodies() {
         return send_body(alloc, stores, journal, session, scan, time);
     }
-    Ok(Event::Idle { stream })
+    Ok(Step::Idle)
 }
 
 // Sends the next body, if there is one.
@@ -92,19 +92,15 @@ fn send_body(
     session: &Session,
     scan: &mut Scan,
     time: u64,
-) -> Result<Event, NoMemory>
+) -> Result<Step, NoMemory>
     requires scan { IsScanOf scan.old (means session.now).standing (reverse journal.now.items) }
-    ensures next { IfOk result (λ event. (n : ℕ) → IsTied n (reverse journal.now.items) stores.now → IsBodyTurn (reverse journal.now.items) (means session.now) time event) }
+    ensures next { IfOk result (λ step. (n : ℕ) → IsTied n (reverse journal.now.items) stores.now → IsBodyTurn (reverse journal.now.items) (means session.now) time (event_of (means session.now).stream step)) }
     ensures scan { (n : ℕ) → IsTied n (reverse journal.now.items) stores.now → IsScanOf scan.new (means session.now).standing (reverse journal.now.items) }
-    ensures range { IfOk result IsInRange }
+    ensures range { IfOk result IsStepInRange }
 {
     match next_body(alloc, stores, journal, session, scan)? {
-        Some(kind) => Ok(Event::Sent {
-            msg: message(session, kind, time),
-        }),
-        None => Ok(Event::Idle {
-            stream: session.stream(),
-        }),
+        Some(kind) => Ok(Step::Sent(message(session, kind, time))),
+        None => Ok(Step::Idle),
     }
 }
 
@@ -126,16 +122,16 @@ pub fn message(session: &Session, kind: Kind, time: u64) -> Msg
     }
 }
 
-// What a turn with this event answers, with a copy of its message.
-pub fn step_of(alloc: Global, event: &Event) -> Result<Step, NoMemory>
-    requires { (stream : ℕ) × IsTurnOf stream event.now }
-    ensures { IfOk result (λ step. (stream : ℕ) → IsTurnOf stream event.now → event.now ≡ event_of stream step) }
+// A copy of a step, with its message.
+pub fn copy_of(alloc: Global, step: &Step) -> Result<Step, NoMemory>
+    ensures { IfOk result (λ copy. copy ≡ step.now) }
 {
-    match event {
-        Event::Sent { msg } => Ok(Step::Sent(msg.copy(alloc)?)),
-        Event::Idle { .. } => Ok(Step::Idle),
-        Event::Stale { cut, .. } => Ok(Step::Stale { cut: cut.get() }),
-        _ => unreachable!(),
+    match step {
+        Step::Sent(msg) => Ok(Step::Sent(msg.copy(alloc)?)),
+        Step::Idle => Ok(Step::Idle),
+        Step::Stale { cut } => Ok(Step::Stale {
+            cut: cut.copy(alloc)?,
+        }),
     }
 }
 
@@ -153,33 +149,29 @@ pub fn is_idle(stores: &Stores, session: &Session) -> bool
     stores.log.vector().le(position)
 }
 
-// Which kind of turn the event is.
-pub fn kind_of(event: &Event) -> Turned
-    requires { (stream : ℕ) × IsTurnOf stream event.now }
-    ensures { IsOfKind result event.now }
+// Which kind of turn the step is.
+pub fn kind_of(step: &Step) -> Turned
+    ensures { (stream : ℕ) → IsOfKind result (event_of stream step.now) }
 {
-    match event {
-        Event::Sent { .. } => Turned::Sent,
-        Event::Idle { .. } => Turned::Idle,
-        Event::Stale { .. } => Turned::Stale,
-        _ => unreachable!(),
+    match step {
+        Step::Sent(_) => Turned::Sent,
+        Step::Idle => Turned::Idle,
+        Step::Stale { .. } => Turned::Stale,
     }
 }
 
 // The session notes its turn at this time. It takes no memory.
-pub fn note(session: &mut Session, event: &Event, time: u64)
+pub fn note(session: &mut Session, step: &Step, time: u64)
     requires attached { IsTrue (means session.old).attached }
     requires later { (means session.old).standing.time < time }
     requires most { time ≤ 4611686018427387903 }
     requires room { 0 < (means session.old).room }
-    requires turn { IsTurnOf (means session.old).stream event.now }
-    ensures { (caller : ℕ) → HasGoneOn (means session.old) (means session.new) (means session.old).attached (record { time = time; caller = caller; event = event.now }) }
+    requires turn { IsTurnOf (means session.old).stream (event_of (means session.old).stream step.now) }
+    ensures { (caller stream : ℕ) → stream ≡ (means session.old).stream → HasGoneOn (means session.old) (means session.new) (means session.old).attached (record { time = time; caller = caller; event = event_of stream step.now }) }
 {
-    match event {
-        Event::Sent { msg } => note_sent(session, &msg.kind, time),
-        Event::Idle { .. } => session.heard(time),
-        Event::Stale { .. } => session.heard(time),
-        _ => unreachable!(),
+    match step {
+        Step::Sent(msg) => note_sent(session, &msg.kind, time),
+        Step::Idle | Step::Stale { .. } => session.heard(time),
     }
 }
 

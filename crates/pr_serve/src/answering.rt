@@ -104,7 +104,8 @@ fn next_message(
     match node.turn_from(CALLER, session, scan)? {
         Step::Idle => Ok(None),
         Step::Sent(msg) => Ok(Some(msg)),
-        Step::Stale { .. } => {
+        Step::Stale { cut } => {
+            drop(cut);
             let msg = node.checkpoint(CALLER, session)?;
             Ok(Some(msg))
         }

@@ -67,6 +67,6 @@ fn take_in(node: &mut Node, msg: Msg) -> Result<(), ServeFault>
     requires { IsMessage msg }
     ensures { TakesOne (means node.old) (means node.new) msg result }
 {
-    node.accept(CALLER, msg)?;
+    drop(node.accept(CALLER, msg)?);
     Ok(())
 }

@@ -27,7 +27,7 @@ impl Engine {
             Some(place) => {
                 let source = route(&self.routes, stream).source;
                 let msg = again(self.alloc, &self.nodes, source, place)?;
-                let _ = self.take_in(stream, msg)?;
+                drop(self.take_in(stream, msg)?);
                 Ok(())
             }
         }

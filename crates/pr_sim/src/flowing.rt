@@ -137,9 +137,14 @@ impl Engine {
         ensures end { IsArrival result }
         ensures sound { ForEachRun self.old (λ d attached h. IsOnTheWay h stream msg → GrowsSound d attached h self.new result) }
     {
-        match self.take_in(stream, msg)? {
-            Taken::Accepted { .. } => Ok(FlowEnd::Done),
+        let taken = self.take_in(stream, msg)?;
+        match &taken {
+            Taken::Accepted { .. } => {
+                drop(taken);
+                Ok(FlowEnd::Done)
+            }
             Taken::Gap { .. } => {
+                drop(taken);
                 self.go_down(stream, Cause::Gap)?;
                 Ok(FlowEnd::Down(Cause::Gap))
             }

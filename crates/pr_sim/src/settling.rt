@@ -129,7 +129,7 @@ impl Engine {
     {
         let source = route(&self.routes, stream).source;
         let msg = through_bytes(self.alloc, last_sent(&self.nodes, source))?;
-        let _ = self.take_in(stream, msg)?;
+        drop(self.take_in(stream, msg)?);
         Ok(())
     }
 }

@@ -13,8 +13,8 @@ const PAGE: usize = 256;
 // The most pages that are full, so that no sum of their items is past the end of a `usize`.
 const PAGES: usize = 1 << 40;
 
-/// A list whose items stay where they are put: it grows page by page, so that nothing is copied, and no place that it had
-/// lies idle behind it. All but the last page are full. Contracts see it as they see a `Roomy`.
+/// A list that grows page by page, so that items stay where they are put, and no place that it had lies idle behind it.
+/// The first page alone grows, by doubling; all but the last page are full. Contracts see it as they see a `Roomy`.
 #[derive(Drop)]
 pub struct Paged<T> {
     alloc: Global,

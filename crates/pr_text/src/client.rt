@@ -37,13 +37,13 @@ pub fn push_wrote(
         print_text(text, body)?;
     }
     push_over(stock.decls(), write, text)?;
-    push_at(b"after", stock, after, text)
+    push_at(b" after ", stock, after, text)
 }
 
 fn write_word(gone: bool) -> &'static [u8]
-    ensures { result.now ≡ cond gone (codes "delete") (codes "write") }
+    ensures { result.now ≡ cond gone (codes "delete ") (codes "write ") }
 {
-    if gone { b"delete" } else { b"write" }
+    if gone { b"delete " } else { b"write " }
 }
 
 /// A client's read was answered.
@@ -57,10 +57,10 @@ pub fn push_answered(
 ) -> Result<(), NoMemory>
     ensures { OnOk result (text.new ≡ text.old ++ sentence stock.now.list 0 (events.Answered client name.now reply.now at.now)) }
 {
-    push_about(b"read", stock.decls(), Kind::Client, client, text)?;
+    push_about(b"read ", stock.decls(), Kind::Client, client, text)?;
     push_name(name, text)?;
     push_reply(stock.decls(), reply, text)?;
-    push_at(b"at", stock, at, text)
+    push_at(b" at ", stock, at, text)
 }
 
 /// The client has seen more than its node covers.
@@ -73,15 +73,15 @@ pub fn push_behind(
 ) -> Result<(), NoMemory>
     ensures { OnOk result (text.new ≡ text.old ++ sentence stock.now.list 0 (events.Behind client needs.now has.now)) }
 {
-    push_about(b"behind", stock.decls(), Kind::Client, client, text)?;
-    push_at(b"needs", stock, needs, text)?;
-    push_at(b"has", stock, has, text)
+    push_about(b"behind ", stock.decls(), Kind::Client, client, text)?;
+    push_at(b" needs ", stock, needs, text)?;
+    push_at(b" has ", stock, has, text)
 }
 
 /// The client came to the node.
 pub fn push_moved(decls: &Decls, node: u32, client: u32, text: &mut Bytes) -> Result<(), NoMemory>
     ensures { OnOk result (text.new ≡ text.old ++ sentence decls.now.list node (events.Moved client)) }
 {
-    push_about(b"move", decls, Kind::Client, client, text)?;
+    push_about(b"move ", decls, Kind::Client, client, text)?;
     push_label(decls, Kind::Node, node, text)
 }

@@ -81,7 +81,7 @@ fn push_lied(
     ensures ok { OnOk result (out.new ≡ out.old ++ (codes "error " ++ lied_cause decls.now.list stream number sent.now got.now)) }
     ensures err { OnErr result (Begins out.old out.new) }
 {
-    push_about(b"error lied", decls, Kind::Stream, stream, out)?;
+    push_about(b"error lied ", decls, Kind::Stream, stream, out)?;
     push_number(number, out)?;
     out.extend(b" sent ")?;
     push_hex(sent, out)?;

@@ -44,17 +44,16 @@ pub fn push_stamp_field(decls: &Decls, stamp: &Stamp, text: &mut Bytes) -> Resul
     push_stamp(decls, stamp, text)
 }
 
-/// Adds the word and the vector, each behind a space.
+/// Adds the word, which has its blanks, and the vector.
 pub fn push_at(
     word: &[u8],
     stock: &Stock,
     vector: &PackedVector,
     text: &mut Bytes,
 ) -> Result<(), NoMemory>
-    ensures { OnOk result (text.new ≡ text.old ++ 32 ∷ (word.now ++ 32 ∷ vector_text stock.now.list vector.now)) }
+    ensures { OnOk result (text.new ≡ text.old ++ (word.now ++ vector_text stock.now.list vector.now)) }
 {
-    push_word(word, text)?;
-    text.push(b' ')?;
+    text.extend(word)?;
     stock.push(vector, text)
 }
 
@@ -76,6 +75,6 @@ pub fn push_span(
 ) -> Result<(), NoMemory>
     ensures { OnOk result (text.new ≡ text.old ++ more 32 (span_fields stock.now.list from.now to.now)) }
 {
-    push_at(b"from", stock, from, text)?;
-    push_at(b"to", stock, to, text)
+    push_at(b" from ", stock, from, text)?;
+    push_at(b" to ", stock, to, text)
 }

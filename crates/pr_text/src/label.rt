@@ -7,7 +7,7 @@ ghost use Rattle.std.specs.Prelude.{◌≡◌, ◌++◌, ◌∷◌, OnErr, OnOk}
 use pr_script::{Bytes, Decls, Kind};
 use pr_stamps::NoMemory;
 
-/// Adds the first word and a label.
+/// Adds the first word, which has a blank behind it, and the label of this number, in time linear in their bytes.
 pub fn push_about(
     word: &[u8],
     decls: &Decls,
@@ -15,11 +15,11 @@ pub fn push_about(
     number: u32,
     text: &mut Bytes,
 ) -> Result<(), NoMemory>
-    ensures ok { OnOk result (text.new ≡ text.old ++ (word.now ++ 32 ∷ label_text kind decls.now.list number)) }
+    ensures ok { OnOk result (text.new ≡ text.old ++ (word.now ++ label_text kind decls.now.list number)) }
     ensures err { OnErr result (Begins text.old text.new) }
 {
     text.extend(word)?;
-    push_label(decls, kind, number, text)
+    text.extend(decls.label(kind, number))
 }
 
 /// Adds a space and the label of this number, in time linear in its bytes.

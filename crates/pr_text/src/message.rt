@@ -5,9 +5,7 @@ ghost use Rattle.pr_inval.specs.Points.{from_of};
 ghost use Rattle.pr_inval.specs.declared.kind.Kind.TheVariants as messages;
 ghost use Rattle.std.specs.Prelude.{◌≡◌, ◌++◌, OnOk, codes, cond};
 
-use crate::field::{
-    push_at, push_name, push_over, push_set, push_span, push_stamp_field, push_word,
-};
+use crate::field::{push_at, push_over, push_set, push_span, push_stamp_field, push_word};
 use crate::rows::push_rows;
 use crate::stock::Stock;
 use pr_inval::{Kind, Row, WriteRec};
@@ -30,8 +28,8 @@ pub fn push_kind(stock: &Stock, kind: &Kind, text: &mut Bytes) -> Result<(), NoM
             rows,
         } => push_checkpoint(stock, to, target, floor, rows.as_slice(), text),
         Kind::Body { name, stamp, bytes } => {
-            push_word(b"body", text)?;
-            push_name(name, text)?;
+            text.extend(b" body ")?;
+            text.extend(name.bytes())?;
             push_stamp_field(stock.decls(), stamp, text)?;
             print_text(text, bytes.as_slice())
         }
@@ -47,16 +45,16 @@ fn push_precise(
 ) -> Result<(), NoMemory>
     ensures { OnOk result (text.new ≡ text.old ++ more 32 (kind_fields stock.now.list (messages.Precise from.now to.now write.now))) }
 {
-    push_word(kind_word(write.gone), text)?;
-    push_name(&write.name, text)?;
+    text.extend(kind_word(write.gone))?;
+    text.extend(write.name.bytes())?;
     push_over(stock.decls(), write, text)?;
     push_span(stock, from, to, text)
 }
 
 fn kind_word(gone: bool) -> &'static [u8]
-    ensures { result.now ≡ cond gone (codes "gone") (codes "precise") }
+    ensures { result.now ≡ cond gone (codes " gone ") (codes " precise ") }
 {
-    if gone { b"gone" } else { b"precise" }
+    if gone { b" gone " } else { b" precise " }
 }
 
 fn push_imprecise(
@@ -85,8 +83,8 @@ fn push_checkpoint(
 {
     push_word(b"checkpoint", text)?;
     push_set(target, text)?;
-    push_at(b"to", stock, to, text)?;
-    push_at(b"floor", stock, floor, text)?;
+    push_at(b" to ", stock, to, text)?;
+    push_at(b" floor ", stock, floor, text)?;
     text.extend(b" rows ")?;
     push_rows(stock.decls(), rows, text)
 }

@@ -24,15 +24,15 @@ pub fn push_cut(
 ) -> Result<(), NoMemory>
     ensures { OnOk result (text.new ≡ text.old ++ sentence stock.now.list node (events.Cut at.now)) }
 {
-    push_about(b"cut", stock.decls(), Kind::Node, node, text)?;
-    push_at(b"at", stock, at, text)
+    push_about(b"cut ", stock.decls(), Kind::Node, node, text)?;
+    push_at(b" at ", stock, at, text)
 }
 
 /// The node dropped its bodies of the name.
 pub fn push_dropped(decls: &Decls, node: u32, name: &Name, text: &mut Bytes) -> Result<(), NoMemory>
     ensures { OnOk result (text.new ≡ text.old ++ sentence decls.now.list node (events.Dropped name.now)) }
 {
-    push_about(b"drop", decls, Kind::Node, node, text)?;
+    push_about(b"drop ", decls, Kind::Node, node, text)?;
     push_name(name, text)
 }
 
@@ -46,7 +46,7 @@ pub fn push_conflicts(
 ) -> Result<(), NoMemory>
     ensures { OnOk result (text.new ≡ text.old ++ sentence decls.now.list node (events.Conflicts name.now found.now)) }
 {
-    push_about(b"conflicts", decls, Kind::Node, node, text)?;
+    push_about(b"conflicts ", decls, Kind::Node, node, text)?;
     push_name(name, text)?;
     push_found(decls, found, text)
 }
@@ -63,10 +63,10 @@ pub fn push_state(
 ) -> Result<(), NoMemory>
     ensures { OnOk result (text.new ≡ text.old ++ sentence stock.now.list node (events.State at.now cut.now floor.now precise.now)) }
 {
-    push_about(b"state", stock.decls(), Kind::Node, node, text)?;
-    push_at(b"at", stock, at, text)?;
-    push_at(b"cut", stock, cut, text)?;
-    push_at(b"floor", stock, floor, text)?;
+    push_about(b"state ", stock.decls(), Kind::Node, node, text)?;
+    push_at(b" at ", stock, at, text)?;
+    push_at(b" cut ", stock, cut, text)?;
+    push_at(b" floor ", stock, floor, text)?;
     push_word(b"precise", text)?;
     push_vectors(stock.decls(), precise, text)
 }

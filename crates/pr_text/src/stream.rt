@@ -27,15 +27,15 @@ pub fn push_attached(
 ) -> Result<(), NoMemory>
     ensures { OnOk result (text.new ≡ text.old ++ sentence stock.now.list 0 (events.Attached stream at.now)) }
 {
-    push_stream(b"attach", stock.decls(), stream, text)?;
-    push_at(b"at", stock, at, text)
+    push_stream(b"attach ", stock.decls(), stream, text)?;
+    push_at(b" at ", stock, at, text)
 }
 
 /// The source sent a message.
 pub fn push_sent(stock: &Stock, msg: &Msg, text: &mut Bytes) -> Result<(), NoMemory>
     ensures { OnOk result (text.new ≡ text.old ++ sentence stock.now.list 0 (events.Sent msg.now)) }
 {
-    push_message(b"send", stock.decls(), msg, text)?;
+    push_message(b"send ", stock.decls(), msg, text)?;
     push_kind(stock, &msg.kind, text)
 }
 
@@ -43,7 +43,7 @@ pub fn push_sent(stock: &Stock, msg: &Msg, text: &mut Bytes) -> Result<(), NoMem
 pub fn push_idle(decls: &Decls, stream: u32, text: &mut Bytes) -> Result<(), NoMemory>
     ensures { OnOk result (text.new ≡ text.old ++ sentence decls.now.list 0 (events.Idle stream)) }
 {
-    push_stream(b"idle", decls, stream, text)
+    push_stream(b"idle ", decls, stream, text)
 }
 
 /// The stream lies behind the source's cut.
@@ -55,8 +55,8 @@ pub fn push_stale(
 ) -> Result<(), NoMemory>
     ensures { OnOk result (text.new ≡ text.old ++ sentence stock.now.list 0 (events.Stale stream cut.now)) }
 {
-    push_stream(b"stale", stock.decls(), stream, text)?;
-    push_at(b"cut", stock, cut, text)
+    push_stream(b"stale ", stock.decls(), stream, text)?;
+    push_at(b" cut ", stock, cut, text)
 }
 
 /// The destination took a message.
@@ -68,8 +68,8 @@ pub fn push_accepted(
 ) -> Result<(), NoMemory>
     ensures { OnOk result (text.new ≡ text.old ++ sentence stock.now.list 0 (events.Accepted msg.now at.now)) }
 {
-    push_message(b"accept", stock.decls(), msg, text)?;
-    push_at(b"at", stock, at, text)
+    push_message(b"accept ", stock.decls(), msg, text)?;
+    push_at(b" at ", stock, at, text)
 }
 
 /// The destination lacks what comes before a message.
@@ -81,9 +81,9 @@ pub fn push_gapped(
 ) -> Result<(), NoMemory>
     ensures { OnOk result (text.new ≡ text.old ++ sentence stock.now.list 0 (events.Gapped msg.now has.now)) }
 {
-    push_message(b"gap", stock.decls(), msg, text)?;
+    push_message(b"gap ", stock.decls(), msg, text)?;
     push_needs(stock.decls(), &start_of(&msg.kind), text)?;
-    push_at(b"has", stock, has, text)
+    push_at(b" has ", stock, has, text)
 }
 
 fn push_needs(decls: &Decls, start: &Vector, text: &mut Bytes) -> Result<(), NoMemory>
@@ -102,7 +102,7 @@ pub fn push_missing(
 ) -> Result<(), NoMemory>
     ensures { OnOk result (text.new ≡ text.old ++ sentence decls.now.list 0 (events.Missing stream number)) }
 {
-    push_stream(b"missing", decls, stream, text)?;
+    push_stream(b"missing ", decls, stream, text)?;
     push_number(number, text)
 }
 
@@ -115,20 +115,20 @@ pub fn push_down(
 ) -> Result<(), NoMemory>
     ensures { OnOk result (text.new ≡ text.old ++ sentence decls.now.list 0 (events.Down stream cause.now)) }
 {
-    push_stream(b"down", decls, stream, text)?;
+    push_stream(b"down ", decls, stream, text)?;
     push_cause(cause, text)
 }
 
 // Adds the first word and the stream.
 fn push_stream(word: &[u8], decls: &Decls, stream: u32, text: &mut Bytes) -> Result<(), NoMemory>
-    ensures { OnOk result (text.new ≡ text.old ++ (word.now ++ 32 ∷ label_text kinds.Stream decls.now.list stream)) }
+    ensures { OnOk result (text.new ≡ text.old ++ (word.now ++ label_text kinds.Stream decls.now.list stream)) }
 {
     push_about(word, decls, Kind::Stream, stream, text)
 }
 
 // Adds the first word, the message's stream and its number.
 fn push_message(word: &[u8], decls: &Decls, msg: &Msg, text: &mut Bytes) -> Result<(), NoMemory>
-    ensures { OnOk result (text.new ≡ text.old ++ (word.now ++ 32 ∷ (label_text kinds.Stream decls.now.list msg.now.stream ++ 32 ∷ decimal msg.now.number))) }
+    ensures { OnOk result (text.new ≡ text.old ++ (word.now ++ (label_text kinds.Stream decls.now.list msg.now.stream ++ 32 ∷ decimal msg.now.number))) }
 {
     push_stream(word, decls, msg.stream, text)?;
     push_number(msg.number, text)

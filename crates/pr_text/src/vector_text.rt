@@ -90,7 +90,7 @@ impl VectorText {
         ensures { IsTextOf pieces.now self.new }
     {
         let made = push_parts(pieces, &self.vector, &mut self.text);
-        self.end(made)
+        self.none_if_refused(made)
     }
 
     // Makes the text of the other, with this clock's part between the places.
@@ -109,11 +109,11 @@ impl VectorText {
         ensures text { (self.new.text ≡ []) ⊎ (self.new.text ≡ take start other.now ++ (part piece.now clock ++ drop end other.now)) }
     {
         let made = spliced(piece, clock, other, start, end, &mut self.text);
-        self.end(made)
+        self.none_if_refused(made)
     }
 
     // A refusal leaves no text.
-    fn end(&mut self, made: Result<(), NoMemory>) -> Result<(), NoMemory>
+    fn none_if_refused(&mut self, made: Result<(), NoMemory>) -> Result<(), NoMemory>
         ensures vector { self.new.vector ≡ self.old.vector }
         ensures made { OnOk made (self.new.text ≡ self.old.text) }
         ensures refused { OnErr made (self.new.text ≡ []) }
@@ -125,6 +125,7 @@ impl VectorText {
     }
 }
 
+// Adds the other text, with this clock's part in place of what stands between the places.
 fn spliced(
     piece: &Piece,
     clock: u64,

@@ -91,14 +91,14 @@ impl Clocks {
         match (self, other) {
             (Clocks::Few(few), Clocks::Few(others)) => is_few(few, others),
             (Clocks::Near(near), Clocks::Near(others)) => **near == **others,
-            _ => is_whole(self, other),
+            _ => is_same_unpacked(self, other),
         }
     }
 }
 
 // The same, of clocks that are packed in different ways, as hardly any are. The room for two vectors is cleared here alone.
 #[inline(never)]
-fn is_whole(clocks: &Clocks, others: &Clocks) -> bool
+fn is_same_unpacked(clocks: &Clocks, others: &Clocks) -> bool
     requires this { IsVector (vector_in clocks.now) }
     requires other { IsVector (vector_in others.now) }
     ensures { IsTrue result ↔ (vector_in clocks.now ≡ vector_in others.now) }

@@ -1,5 +1,5 @@
 // A version vector at rest.
-ghost use Rattle.std.specs.Prelude.{◌≡◌, ◌<◌, ◌↔◌, IfOk, IsTrue};
+ghost use Rattle.std.specs.Prelude.{◌≡◌, ◌≤◌, ◌<◌, ◌↔◌, ℕ, IfOk, IsTrue};
 
 use crate::Vector;
 use crate::clocks::Clocks;
@@ -64,6 +64,14 @@ impl PackedVector {
         ensures range { IsVector self.now }
     {
         self.clocks.vector()
+    }
+
+    /// How many nodes it may have a clock of, in constant time: each behind them has clock 0.
+    pub fn nodes(&self) -> u32
+        ensures most { result ≤ 32 }
+        ensures behind { (n : ℕ) → result ≤ n → n < 32 → clock_of self.now n ≡ 0 }
+    {
+        self.clocks.nodes()
     }
 
     /// The clock of the node, in constant time.

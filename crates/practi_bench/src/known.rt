@@ -55,20 +55,20 @@ impl Known {
 
     fn accept_write(&mut self) -> Result<(), Failed> {
         let msg = self.writers.precise(self.alloc)?;
-        let _ = self.node.accept(CALLER, msg)?;
+        drop(self.node.accept(CALLER, msg)?);
         Ok(())
     }
 
     fn accept_body(&mut self) -> Result<(), Failed> {
         self.accept_write()?;
         let msg = self.writers.body(self.alloc)?;
-        let _ = self.node.accept(CALLER, msg)?;
+        drop(self.node.accept(CALLER, msg)?);
         Ok(())
     }
 
     fn accept_hint(&mut self) -> Result<(), Failed> {
         let msg = self.writers.imprecise(self.alloc)?;
-        let _ = self.node.accept(CALLER, msg)?;
+        drop(self.node.accept(CALLER, msg)?);
         Ok(())
     }
 

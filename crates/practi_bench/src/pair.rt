@@ -67,11 +67,18 @@ impl Pair {
     fn take(&mut self, msg: Msg) -> Result<(), Failed>
         requires { IsMessage msg }
     {
-        match self.destination.accept(CALLER, msg)? {
-            Taken::Accepted { time } => self.source.heard(time),
-            Taken::Gap { .. } => return Err(Failed),
+        let taken = self.destination.accept(CALLER, msg)?;
+        match &taken {
+            Taken::Accepted { time } => {
+                self.source.heard(*time);
+                drop(taken);
+                Ok(())
+            }
+            Taken::Gap { .. } => {
+                drop(taken);
+                Err(Failed)
+            }
         }
-        Ok(())
     }
 
     /// A read at the destination.

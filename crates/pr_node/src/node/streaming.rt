@@ -14,7 +14,7 @@ ghost use Rattle.pr_story.specs.Sessions.{HasGoneOn};
 use crate::answering::{answer, copy};
 use crate::rebuilding::{cut, fresh};
 use crate::starting::{checkpoint, start};
-use crate::turning::{is_idle, kind_of, next_turn, note, note_idle, step_of};
+use crate::turning::{copy_of, is_idle, kind_of, next_turn, note, note_idle};
 use crate::{Node, Scan, Turned};
 use pr_inval::{Msg, NodeFault, Session, Step};
 use pr_stamps::NoMemory;
@@ -58,19 +58,20 @@ impl Node {
         ensures spent { self.old.spent ≡ true → result ≡ Err faults.NoMemory }
     {
         let time = self.diary.begin(session.time())?;
+        let stream = session.stream();
         let journal = self.diary.journal();
-        let event = next_turn(self.alloc, &self.stores, journal, session, scan, time)?;
-        let step = match step_of(self.alloc, &event) {
-            Ok(step) => step,
+        let step = next_turn(self.alloc, &self.stores, journal, session, scan, time)?;
+        let answer = match copy_of(self.alloc, &step) {
+            Ok(answer) => answer,
             Err(refused) => {
                 // By a call, so that its kinds are not told apart here.
-                drop(event);
+                drop(step);
                 return Err(refused.into());
             }
         };
-        note(session, &event, time);
-        self.diary.finish(time, caller, event);
-        Ok(step)
+        note(session, &step, time);
+        self.diary.turned(time, caller, stream, step);
+        Ok(answer)
     }
 
     /// The same turn, for callers that find its message where it stands, in the newest entry of the journal. It takes the
@@ -90,17 +91,17 @@ impl Node {
         ensures spent { self.old.spent ≡ true → result ≡ Err faults.NoMemory }
     {
         let time = self.diary.begin(session.time())?;
+        let stream = session.stream();
         if is_idle(&self.stores, session) {
-            let stream = session.stream();
             note_idle(session, time);
             self.diary.finish(time, caller, Event::Idle { stream });
             return Ok(Turned::Idle);
         }
         let journal = self.diary.journal();
-        let event = next_turn(self.alloc, &self.stores, journal, session, scan, time)?;
-        let turned = kind_of(&event);
-        note(session, &event, time);
-        self.diary.finish(time, caller, event);
+        let step = next_turn(self.alloc, &self.stores, journal, session, scan, time)?;
+        let turned = kind_of(&step);
+        note(session, &step, time);
+        self.diary.turned(time, caller, stream, step);
         Ok(turned)
     }
 

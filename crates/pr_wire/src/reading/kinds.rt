@@ -111,17 +111,16 @@ impl<'a> Cursor<'a> {
     fn precise(&mut self, alloc: Global, format: Format, header: &Header) -> Result<Msg, Fault>
         ensures { Gives (λ x. x) result (whole header.now (precise_at format self.old.rest.now)) }
     {
-        let mut from = Vector::zero();
-        self.rise(&mut from)?;
-        let mut to = from;
-        self.end(format, &mut to)?;
+        let mut vector = Vector::zero();
+        self.rise(&mut vector)?;
+        let from = PackedVector::of(alloc, &vector)?;
+        self.end(format, &mut vector)?;
         let write = self.write(format)?;
-        if !is_between(&from, &to, &write.stamp) {
+        if !is_between(&from, &vector, &write.stamp) {
             return Err(Fault::Bad);
         }
         self.expect_end()?;
-        let from = PackedVector::of(alloc, &from)?;
-        let to = PackedVector::of(alloc, &to)?;
+        let to = PackedVector::of(alloc, &vector)?;
         Ok(header.with(Kind::Precise { from, to, write }))
     }
 
@@ -130,14 +129,13 @@ impl<'a> Cursor<'a> {
     fn imprecise(&mut self, alloc: Global, format: Format, header: &Header) -> Result<Msg, Fault>
         ensures { Gives (λ x. x) result (whole header.now (imprecise_at format self.old.rest.now)) }
     {
-        let mut from = Vector::zero();
-        self.rise(&mut from)?;
-        let mut to = from;
-        self.end(format, &mut to)?;
+        let mut vector = Vector::zero();
+        self.rise(&mut vector)?;
+        let from = PackedVector::of(alloc, &vector)?;
+        self.end(format, &mut vector)?;
         let target = self.target(alloc)?;
         self.expect_end()?;
-        let from = PackedVector::of(alloc, &from)?;
-        let to = PackedVector::of(alloc, &to)?;
+        let to = PackedVector::of(alloc, &vector)?;
         Ok(header.with(Kind::Imprecise { from, to, target }))
     }
 
@@ -152,6 +150,7 @@ impl<'a> Cursor<'a> {
         if !is_le(&floor, &to) {
             return Err(Fault::Bad);
         }
+        let floor = PackedVector::of(alloc, &floor)?;
         let bounds = Bounds {
             format,
             to: &to,
@@ -161,7 +160,6 @@ impl<'a> Cursor<'a> {
         let rows = self.rows(alloc, &bounds)?;
         self.expect_end()?;
         let to = PackedVector::of(alloc, &to)?;
-        let floor = PackedVector::of(alloc, &floor)?;
         Ok(header.with(Kind::Checkpoint {
             to,
             target,

@@ -11,7 +11,7 @@ use pr_inval::Row;
 use pr_names::Name;
 use pr_sets::NameSet;
 use pr_stamps::{Mark, Seq, Stamp};
-use pr_vectors::Vector;
+use pr_vectors::{PackedVector, Vector};
 use std::alloc::Global;
 
 /// What bounds the marks of a checkpoint: those up to its end that its floor does not cover, of names outside its
@@ -21,7 +21,7 @@ pub struct Bounds<'a> {
     pub format: Format,
     pub to: &'a Vector,
     pub target: &'a NameSet,
-    pub floor: &'a Vector,
+    pub floor: &'a PackedVector,
 }
 
 // Whether a checkpoint can tell this newest stamp of the name.

@@ -6,7 +6,7 @@ use crate::fault::Fault;
 use crate::format::Format;
 use crate::reading::Cursor;
 use pr_stamps::{Mark, Stamp};
-use pr_vectors::Vector;
+use pr_vectors::{PackedVector, Vector};
 
 /// The stamp of a clock and a node, where they are in range.
 #[tactic(auto, unfolding(crate::specs::Reading::stamp_of))]
@@ -27,7 +27,7 @@ fn is_prev(prev: &Option<Stamp>, stamp: &Stamp) -> bool
 
 /// Whether the second vector covers the stamp, and the first does not.
 #[tactic(auto, unfolding(crate::specs::Reading::is_between))]
-pub fn is_between(from: &Vector, to: &Vector, stamp: &Stamp) -> bool
+pub fn is_between(from: &PackedVector, to: &Vector, stamp: &Stamp) -> bool
     ensures { result ≡ is_between from.now to.now stamp.now }
 {
     let node = stamp.node();

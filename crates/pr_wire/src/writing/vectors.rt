@@ -26,7 +26,7 @@ fn set_byte(chunk: &mut Chunk, at: usize, byte: u8)
 }
 
 // The entries of the nodes at which the second vector is above the first, and how many they are.
-fn put_above(chunk: &mut Chunk, from: &Vector, to: &Vector) -> u8
+fn put_above(chunk: &mut Chunk, from: &PackedVector, to: &PackedVector) -> u8
     requires room { length chunk.old.items + 288 ≤ 704 }
     ensures text { chunk.new.items ≡ chunk.old.items ++ flat_map entry_text (above from.now to.now 0 32) }
     ensures count { result ≡ length (above from.now to.now 0 32) }
@@ -43,7 +43,7 @@ fn put_above(chunk: &mut Chunk, from: &Vector, to: &Vector) -> u8
     count
 }
 
-// The same where the first vector is the zero vector, which is not made.
+// The same of a vector that is not packed, above the zero vector.
 fn put_clocks(chunk: &mut Chunk, vector: &Vector) -> u8
     requires room { length chunk.old.items + 288 ≤ 704 }
     ensures text { chunk.new.items ≡ chunk.old.items ++ flat_map entry_text (above zero_vector vector.now 0 32) }
@@ -64,7 +64,7 @@ fn put_clocks(chunk: &mut Chunk, vector: &Vector) -> u8
 // What the second vector has above the first. How many nodes that are is set behind their entries, so that the vectors
 // are gone over once.
 #[tactic(auto, unfolding(crate::specs::Spelling::rise_text))]
-fn put_rise(chunk: &mut Chunk, from: &Vector, to: &Vector)
+fn put_rise(chunk: &mut Chunk, from: &PackedVector, to: &PackedVector)
     requires { length chunk.old.items + 289 ≤ 704 }
     ensures text { chunk.new.items ≡ chunk.old.items ++ rise_text from.now to.now }
     ensures size { length chunk.new.items ≤ length chunk.old.items + 289 }
@@ -90,13 +90,15 @@ pub fn put_vector(chunk: &mut Chunk, vector: &Vector)
     set_byte(chunk, at, nodes);
 }
 
+/// The same of a packed vector, which is not unpacked.
+#[tactic(auto, unfolding(crate::specs::Spelling::vector_text))]
 pub fn put_packed(chunk: &mut Chunk, vector: &PackedVector)
     requires { length chunk.old.items + 289 ≤ 704 }
     ensures text { chunk.new.items ≡ chunk.old.items ++ vector_text vector.now }
     ensures size { length chunk.new.items ≤ length chunk.old.items + 289 }
     ensures grows { length chunk.old.items ≤ length chunk.new.items }
 {
-    put_vector(chunk, &vector.get());
+    put_rise(chunk, &PackedVector::zero(), vector);
 }
 
 /// Where the points of a message start, and what their end has above that.
@@ -106,7 +108,6 @@ pub fn put_points(chunk: &mut Chunk, from: &PackedVector, to: &PackedVector)
     ensures size { length chunk.new.items ≤ length chunk.old.items + 578 }
     ensures grows { length chunk.old.items ≤ length chunk.new.items }
 {
-    let from = from.get();
-    put_vector(chunk, &from);
-    put_rise(chunk, &from, &to.get());
+    put_packed(chunk, from);
+    put_rise(chunk, from, to);
 }

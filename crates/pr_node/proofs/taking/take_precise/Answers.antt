@@ -1,9 +1,6 @@
-use Rattle.std.proofs.Common.{◌≡◌, ◌⊎◌, Bool, List, ap, inl, inr, true, false, subst, sym}
-use Rattle.std.specs.Prelude.{IsTrue}
+use Rattle.std.proofs.Common.{inl, inr}
 use Rattle.pr_inval.specs.Messages.{IsKind}
 use Rattle.pr_inval.specs.declared.kind.Kind.TheVariants.{Precise}
-use Rattle.pr_marks.specs.Table.{IsMarked}
-use Rattle.pr_story.specs.Knowledge.{HeardOf, mark_of}
 use Rattle.pr_story.proofs.Known.{known_told}
 use Rattle.pr_snap.proofs.Choice.{by_test}
 use Rattle.pr_node.proofs.Refining.{precise_tied}

@@ -1,6 +1,7 @@
 use Rattle.std.proofs.Common.{ℕ, ◌≡◌, ◌≤◌, ◌<◌, subst, sym, reverse}
 use Rattle.pr_inval.specs.Standing.{Standing, means}
-use Rattle.pr_story.specs.declared.event.Event.{Event}
+use Rattle.pr_inval.specs.declared.step.Step.{Step}
+use Rattle.pr_story.specs.Turns.{event_of}
 use Rattle.pr_story.proofs.Withholding.{if_ok}
 use Rattle.pr_node.specs.Sending.{IsNextTurn}
 use Rattle.pr_node.specs.Ties.{IsTied}
@@ -11,8 +12,8 @@ use Rattle.pr_node.proofs.turning.next_turn.Goals as goal
 pub returns-clause-next : goal.returns-clause-next
 returns-clause-next c =
     let j = reverse c.args.journal.now.items in
-    let N : Event → Type 0 = λ event. (n : ℕ) → IsTied n (reverse c.args.journal.now.items) c.args.stores.now → IsNextTurn n (reverse c.args.journal.now.items) (means c.room.new.self) c.args.time event in
-    if_ok c.next_event.result N _ (λ event so n tied. turn_at n j (means c.args.session.now) (means c.room.new.self) c.args.time event c.room.ensures.same (so n tied)) c.next_event.ensures.next
+    let N : Step → Type 0 = λ s. (n : ℕ) → IsTied n (reverse c.args.journal.now.items) c.args.stores.now → IsNextTurn n (reverse c.args.journal.now.items) (means c.room.new.self) c.args.time (event_of (means c.room.new.self).stream s) in
+    if_ok c.next_event.result N _ (λ s so n tied. turn_at n j (means c.args.session.now) (means c.room.new.self) c.args.time s c.room.ensures.same (so n tied)) c.next_event.ensures.next
 
 pub returns-clause-spelled : goal.returns-clause-spelled
 returns-clause-spelled c =

@@ -22,5 +22,5 @@ returns c =
     (on_front r t c.push_reply.new.text c.push_name.new.text _ _
     (c.in_ok-push_reply.ensures ∙ ap (λ (d : Declarations). c.push_name.new.text ++ more 32 (reply_fields d.list c.args.reply.now)) c.decls-2.ensures) at) in
     on_front r t c.push_about.new.text c.args.text.now _ _
-    (c.in_ok-push_about.ensures.ok ∙ ap (λ (d : Declarations). c.args.text.now ++ (codes "read" ++ 32 ∷ label_text kinds.Client d.list c.args.client)) c.decls.ensures)
+    (c.in_ok-push_about.ensures.ok ∙ ap (λ (d : Declarations). c.args.text.now ++ (codes "read " ++ label_text kinds.Client d.list c.args.client)) c.decls.ensures)
     (on_front r t c.push_name.new.text c.push_about.new.text _ _ c.in_ok-push_name.ensures answer)

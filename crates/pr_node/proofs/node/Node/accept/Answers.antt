@@ -1,5 +1,6 @@
-use Rattle.std.proofs.Common.{◌∙◌, refl, rules, List, [], reverse}
+use Rattle.std.proofs.Common.{◌∙◌, ap, sym, refl, rules, ℕ, List, [], reverse}
 use Rattle.pr_story.specs.declared.entry.Entry.{Entry}
+use Rattle.pr_story.specs.declared.event.Event.TheVariants.{Gapped}
 use Rattle.pr_node.proofs.Adding.{stands, still_stands, adds}
 use Rattle.pr_node.proofs.Quiet.{quiet_tied}
 use Rattle.pr_node.proofs.Receiving.{gapped_ready, accepted_ready}
@@ -18,7 +19,7 @@ returns-in-Some-clause-ok c sessions needs =
     let tied = c.self.invariant.1 c.in_ok-time.ensures.worked in
     rw (← c.self.view_is) (adds _ _ _ _ _ _ _ _ _ sessions needs _ _ _ c.in_ok-time.ensures.items c.in_ok-gapped.ensures.items refl c.in_ok-gapped.ensures.spent
     (gapped_ready sessions needs _ _ _ _ _ _ _ c.in-Some.needs.now c.msg_in_range.ensures c.vector-has.ensures.range (c.vector-has.ensures.value ∙ tied.log.vector) c.in-Some.ensures)
-    c.ranges.caller.fits refl refl c.in_ok-time.ensures.time (refl, c.get-needs.ensures.value ∙ c.in-Some.ensures.0, refl))
+    c.ranges.caller.fits refl refl c.in_ok-time.ensures.time (ap (λ (v : List ℕ). Gapped c.args.msg v) (sym c.in_ok-had.ensures), c.in_ok-needs.ensures ∙ c.in-Some.ensures.0, refl))
 
 pub invariant_of-self-2 : goal.invariant_of-self-2
 invariant_of-self-2 c =

@@ -1,62 +1,55 @@
-use Rattle.std.proofs.Common.{ap, refl, sym, subst, ◌∙◌, List, reverse}
+use Rattle.std.proofs.Common.{ap, refl, sym, subst, ◌∙◌, ℕ, List, reverse, rules}
 use Rattle.pr_inval.specs.Standing.{means, SessionMeaning}
+use Rattle.pr_inval.specs.declared.step.Step.{Step}
 use Rattle.pr_stamps.specs.Kept.{Kept}
 use Rattle.pr_story.specs.declared.entry.Entry.{Entry}
 use Rattle.pr_node.specs.Scanning.{IsScanOf}
-use Rattle.pr_node.specs.Grammar.{IsSendSpelled}
+use Rattle.pr_node.specs.Calls.{IsStep}
+use Rattle.pr_node.specs.Grammar.{IsStepSpelled}
 use Rattle.pr_node.specs.Sending.{IsNextTurn, IsTurnOf}
 use Rattle.pr_node.proofs.Adding.{stands, adds}
 use Rattle.pr_node.proofs.Quiet.{quiet_tied}
 use Rattle.pr_node.proofs.Scanning.{scan_turned}
-use Rattle.pr_node.proofs.Stepping.{has_gone_on, step_spelled, turn_heard, turn_is, tied_so, turn_of, turn_quiet, turn_ready}
+use Rattle.pr_story.specs.Turns.{event_of}
+use Rattle.pr_node.proofs.Stepping.{has_gone_on, step_in_range, turn_heard, turn_is, tied_so, turn_of, turn_quiet, turn_ready}
 use Rattle.pr_node.proofs.node.Node.turn_from.Goals as goal
-
-pub step_of-requires : goal.step_of-requires
-step_of-requires c =
-    let n = c.self.inside.id in
-    let a : SessionMeaning = means c.args.session.now in
-    let event = c.in_ok-event.event in
-    let next = tied_so n _ _ c.self.inside.stores (λ j. IsNextTurn n j a c.in_ok-time.time c.in_ok-event.event) (ap (λ (x : Kept Entry). x.items) c.journal-journal.ensures ∙ c.in_ok-time.ensures.items) (c.in_ok-event.ensures.next n) (c.self.invariant.1 c.in_ok-time.ensures.worked) in
-    (a.stream, turn_of n _ a c.in_ok-time.time event next)
 
 pub invariant_of-self-2 : goal.invariant_of-self-2
 invariant_of-self-2 c =
     let n = c.self.inside.id in
     let a : SessionMeaning = means c.args.session.now in
-    let event = c.in_ok-event.event in
-    let next = tied_so n _ _ c.self.inside.stores (λ j. IsNextTurn n j a c.in_ok-time.time c.in_ok-event.event) (ap (λ (x : Kept Entry). x.items) c.journal-journal.ensures ∙ c.in_ok-time.ensures.items) (c.in_ok-event.ensures.next n) (c.self.invariant.1 c.in_ok-time.ensures.worked) in
-    stands n _ _ _ _ _ _ c.self.invariant.0 c.in_ok-time.ensures.items c.finish.ensures.items
+    let event = event_of c.stream-stream.result c.in_ok-step.step in
+    let next = subst (λ (k : ℕ). IsNextTurn n (reverse c.self.inside.diary.entries.items) a c.in_ok-time.time (event_of k c.in_ok-step.step)) (sym c.stream-stream.ensures)
+    (tied_so n _ _ c.self.inside.stores (λ j. IsNextTurn n j a c.in_ok-time.time (event_of a.stream c.in_ok-step.step)) (ap (λ (x : Kept Entry). x.items) c.journal-journal.ensures ∙ c.in_ok-time.ensures.items) (c.in_ok-step.ensures.next n) (c.self.invariant.1 c.in_ok-time.ensures.worked)) in
+    stands n _ _ _ _ _ _ c.self.invariant.0 c.in_ok-time.ensures.items c.turned.ensures.items
     (quiet_tied n _ _ _ (turn_quiet n _ a c.in_ok-time.time event next) (c.self.invariant.1 c.in_ok-time.ensures.worked))
 
 pub returns-clause-ok : goal.returns-clause-ok
 returns-clause-ok c needs =
     let n = c.self.inside.id in
     let a : SessionMeaning = means c.args.session.now in
-    let event = c.in_ok-event.event in
-    let next = tied_so n _ _ c.self.inside.stores (λ j. IsNextTurn n j a c.in_ok-time.time c.in_ok-event.event) (ap (λ (x : Kept Entry). x.items) c.journal-journal.ensures ∙ c.in_ok-time.ensures.items) (c.in_ok-event.ensures.next n) (c.self.invariant.1 c.in_ok-time.ensures.worked) in
-    rw (← c.self.view_is) (adds _ _ _ _ _ _ _ _ _ (λ x. a.standing) needs _ c.time.result _ c.in_ok-time.ensures.items c.finish.ensures.items refl c.finish.ensures.spent
-    (turn_ready needs n _ _ a _ _ event c.in_ok-event.ensures.range next)
+    let event = event_of c.stream-stream.result c.in_ok-step.step in
+    let next = subst (λ (k : ℕ). IsNextTurn n (reverse c.self.inside.diary.entries.items) a c.in_ok-time.time (event_of k c.in_ok-step.step)) (sym c.stream-stream.ensures)
+    (tied_so n _ _ c.self.inside.stores (λ j. IsNextTurn n j a c.in_ok-time.time (event_of a.stream c.in_ok-step.step)) (ap (λ (x : Kept Entry). x.items) c.journal-journal.ensures ∙ c.in_ok-time.ensures.items) (c.in_ok-step.ensures.next n) (c.self.invariant.1 c.in_ok-time.ensures.worked)) in
+    rw (← c.self.view_is) (adds _ _ _ _ _ _ _ _ _ (λ x. a.standing) needs _ c.time.result _ c.in_ok-time.ensures.items c.turned.ensures.items refl c.turned.ensures.spent
+    (turn_ready needs n _ _ a _ _ event (step_in_range c.stream-stream.result c.in_ok-step.step (search rules) c.in_ok-step.ensures.range) next)
     c.ranges.caller.fits refl (c.time.ensures.value ∙ turn_heard n _ a c.in_ok-time.time event next) c.in_ok-time.ensures.time (
-      turn_is n _ a _ _ c.in-Ok.step event (c.in-Ok.ensures a.stream (turn_of n _ a c.in_ok-time.time event next)) next,
-      has_gone_on a (means c.next_turn.new.session) (means c.note.new.session) _ c.in_ok-event.ensures.same c.requires.attached (c.note.ensures c.args.caller),
+      subst (λ (x : Step). IsStep a.stream x (record { time = c.in_ok-time.time; caller = c.args.caller; event = event })) (sym c.in-Ok.ensures) (turn_is n _ a _ _ c.stream-stream.result c.in_ok-step.step c.stream-stream.ensures next),
+      has_gone_on a (means c.next_turn.new.session) (means c.note.new.session) _ c.in_ok-step.ensures.same c.requires.attached (c.note.ensures c.args.caller c.stream-stream.result (c.stream-stream.ensures ∙ sym c.in_ok-step.ensures.same.stream)),
     ))
 
 pub returns-clause-grammar : goal.returns-clause-grammar
 returns-clause-grammar c =
-    let n = c.self.inside.id in
-    let a : SessionMeaning = means c.args.session.now in
-    let event = c.in_ok-event.event in
-    let next = tied_so n _ _ c.self.inside.stores (λ j. IsNextTurn n j a c.in_ok-time.time c.in_ok-event.event) (ap (λ (x : Kept Entry). x.items) c.journal-journal.ensures ∙ c.in_ok-time.ensures.items) (c.in_ok-event.ensures.next n) (c.self.invariant.1 c.in_ok-time.ensures.worked) in
-    step_spelled a.stream c.in-Ok.step event (c.in-Ok.ensures a.stream (turn_of n _ a c.in_ok-time.time event next))
-    (tied_so n _ _ c.self.inside.stores (λ j. IsSendSpelled c.in_ok-event.event) (ap (λ (x : Kept Entry). x.items) c.journal-journal.ensures ∙ c.in_ok-time.ensures.items) (c.in_ok-event.ensures.spelled n) (c.self.invariant.1 c.in_ok-time.ensures.worked))
+    subst (λ (x : Step). IsStepSpelled x) (sym c.in-Ok.ensures)
+    (tied_so c.self.inside.id _ _ c.self.inside.stores (λ j. IsStepSpelled c.in_ok-step.step) (ap (λ (x : Kept Entry). x.items) c.journal-journal.ensures ∙ c.in_ok-time.ensures.items) (c.in_ok-step.ensures.spelled c.self.inside.id) (c.self.invariant.1 c.in_ok-time.ensures.worked))
 
 pub returns-in-Err-clause-scan : goal.returns-in-Err-clause-scan
 returns-in-Err-clause-scan c =
     subst (λ (es : List Entry). IsScanOf c.next_turn.new.scan (means c.next_turn.new.session).standing (reverse es)) (sym c.in_ok-time.ensures.items)
     (tied_so c.self.inside.id _ _ c.self.inside.stores (λ j. IsScanOf c.next_turn.new.scan (means c.next_turn.new.session).standing j) (ap (λ (x : Kept Entry). x.items) c.journal-journal.ensures ∙ c.in_ok-time.ensures.items) (c.next_turn.ensures.scan c.self.inside.id) (c.self.invariant.1 c.in_ok-time.ensures.worked))
 
-pub returns-in_err-event-clause-scan : goal.returns-in_err-event-clause-scan
-returns-in_err-event-clause-scan c =
+pub returns-in_err-step-clause-scan : goal.returns-in_err-step-clause-scan
+returns-in_err-step-clause-scan c =
     subst (λ (es : List Entry). IsScanOf c.next_turn.new.scan (means c.next_turn.new.session).standing (reverse es)) (sym c.in_ok-time.ensures.items)
     (tied_so c.self.inside.id _ _ c.self.inside.stores (λ j. IsScanOf c.next_turn.new.scan (means c.next_turn.new.session).standing j) (ap (λ (x : Kept Entry). x.items) c.journal-journal.ensures ∙ c.in_ok-time.ensures.items) (c.next_turn.ensures.scan c.self.inside.id) (c.self.invariant.1 c.in_ok-time.ensures.worked))
 
@@ -64,9 +57,10 @@ pub returns-clause-scan : goal.returns-clause-scan
 returns-clause-scan c =
     let n = c.self.inside.id in
     let a : SessionMeaning = means c.args.session.now in
-    let event = c.in_ok-event.event in
-    let next = tied_so n _ _ c.self.inside.stores (λ j. IsNextTurn n j a c.in_ok-time.time c.in_ok-event.event) (ap (λ (x : Kept Entry). x.items) c.journal-journal.ensures ∙ c.in_ok-time.ensures.items) (c.in_ok-event.ensures.next n) (c.self.invariant.1 c.in_ok-time.ensures.worked) in
-    scan_turned c.next_turn.new.scan (means c.next_turn.new.session) (means c.note.new.session) _ _ c.begin.new.self.entries.items _ (c.note.ensures c.args.caller)
-    (subst (λ k. IsTurnOf k c.in_ok-event.event) (sym c.in_ok-event.ensures.same.stream) (turn_of n _ a c.in_ok-time.time event next)) c.finish.ensures.items
+    let event = event_of c.stream-stream.result c.in_ok-step.step in
+    let next = subst (λ (k : ℕ). IsNextTurn n (reverse c.self.inside.diary.entries.items) a c.in_ok-time.time (event_of k c.in_ok-step.step)) (sym c.stream-stream.ensures)
+    (tied_so n _ _ c.self.inside.stores (λ j. IsNextTurn n j a c.in_ok-time.time (event_of a.stream c.in_ok-step.step)) (ap (λ (x : Kept Entry). x.items) c.journal-journal.ensures ∙ c.in_ok-time.ensures.items) (c.in_ok-step.ensures.next n) (c.self.invariant.1 c.in_ok-time.ensures.worked)) in
+    scan_turned c.next_turn.new.scan (means c.next_turn.new.session) (means c.note.new.session) _ _ c.begin.new.self.entries.items _ (c.note.ensures c.args.caller c.stream-stream.result (c.stream-stream.ensures ∙ sym c.in_ok-step.ensures.same.stream))
+    (subst (λ k. IsTurnOf k event) (sym c.in_ok-step.ensures.same.stream) (turn_of n _ a c.in_ok-time.time event next)) c.turned.ensures.items
     (subst (λ (es : List Entry). IsScanOf c.next_turn.new.scan (means c.next_turn.new.session).standing (reverse es)) (sym c.in_ok-time.ensures.items)
     (tied_so c.self.inside.id _ _ c.self.inside.stores (λ j. IsScanOf c.next_turn.new.scan (means c.next_turn.new.session).standing j) (ap (λ (x : Kept Entry). x.items) c.journal-journal.ensures ∙ c.in_ok-time.ensures.items) (c.next_turn.ensures.scan c.self.inside.id) (c.self.invariant.1 c.in_ok-time.ensures.worked)))
