@@ -1,7 +1,8 @@
 // Lines that come one after another, printed with texts of clocks that are kept.
 ghost use Rattle.pr_text.specs.Texts.{AreOfNodes};
 
-use super::{accepted, bytes, packed, precise, sent, set};
+use super::streams::{accepted, precise, sent};
+use super::{bytes, packed, set};
 use crate::{ClockTexts, line, next_line};
 use pr_inval::Kind;
 use pr_script::{Decls, read};
