@@ -1,10 +1,11 @@
 -- Ranges that lie apart, with one taken out or put in. A set of ranges is the end of each by its start.
 use Rattle.std.proofs.Common.{◌≡◌, ℕ, ◌≤◌, ◌<◌, ◌+◌, Option, None, Some, Bool, true, false, cond, refl, sym, ◌∙◌, ap, arith, nat_eq, inl, inr}
-use Rattle.std.specs.Prelude.{◌⊎◌, ◌↔◌, min, max}
+use Rattle.std.specs.Prelude.{◌⊎◌, ◌↔◌, Err, List, Ok, OnErr, OnOk, Result, min, max}
 use Rattle.std.specs.Option.{IsSome, IfNone}
 use Rattle.std.specs.Ordering.{is_eq, is_lt, is_gt, nat_cmp}
+use Rattle.std.proofs.lemmas.Bool.{cases_lt}
 use Rattle.std.proofs.lemmas.Bool.Decides.{nat_tests}
-use Rattle.pr_gaps.specs.Ranges.{AreApart, Has}
+use Rattle.pr_gaps.specs.Ranges.{AreApart, Has, HasClock, IsIn}
 
 eq_nat : (x y : ℕ) → is_eq (nat_cmp x y) ≡ nat_eq x y
 eq_nat x y = grind (arith, nat_tests)
@@ -30,6 +31,9 @@ left f g s out t e is = elim (this_or s t) [
   where
     gone : Some e ≡ None → ⊥
     gone h = cc
+
+pub has_left : (f g : ℕ → Option ℕ) (s : ℕ) → ((q : ℕ) → g q ≡ cond (is_eq (nat_cmp s q)) None (f q)) → (c : ℕ) → Has g c → Has f c
+has_left f g s out c (t, e, is, from, to) = (t, e, left f g s out t e is, from, to)
 
 -- a clock that was in a range is in what is left, or in the range that was taken out
 pub still : (f g : ℕ → Option ℕ) (s e c : ℕ) → f s ≡ Some e → ((q : ℕ) → g q ≡ cond (is_eq (nat_cmp s q)) None (f q)) → Has f c → Has g c ⊎ ((s ≤ c) × (c ≤ e))
@@ -166,28 +170,51 @@ grown_same f h lo hi s e apart at last in_ le order down c =
       (λ either. has_now (without f s) h s (max hi e) c in_g (still_apart f (without f s) s (λ q. refl) apart) (far_without f hi s e apart at last) (omega (arith, k.1.0)) (turn_from f (without f s) lo hi s e s c m at (λ q. refl) either)),
     )
 
--- ---- the run from 1
+-- ---- the clocks from 1 on
 
-pub run_within : (f : ℕ → Option ℕ) (e c : ℕ) → f 1 ≡ Some e → 1 ≤ c → c ≤ e → Has f c
-run_within f e c is from to = (1, e, is, from, to)
-
-pub run_end : (f : ℕ → Option ℕ) (e : ℕ) → AreApart f → f 1 ≡ Some e → Has f (e + 1) → ⊥
-run_end f e apart is (t, u, has, from, to) = elim (order 1 t (apart.some t u has).0) [
-  | inl same ↦ omega (arith, to, some_some u e (sym has ∙ ap f (sym same) ∙ is))
-  | inr less ↦ omega (arith, apart.gap 1 e t u is has less, from)
-]
+-- a range that touches the clocks up to one is taken out, and they go on to its end
+pub run_grows : (f g : ℕ → Option ℕ) (last s e c : ℕ) → AreApart f → f s ≡ Some e → s ≤ last + 1 → ((q : ℕ) → g q ≡ cond (is_eq (nat_cmp s q)) None (f q)) → (((1 ≤ c) × (c ≤ max last e)) ⊎ Has g c) ↔ (((1 ≤ c) × (c ≤ last)) ⊎ Has f c)
+run_grows f g last s e c apart at touches out = (to, from)
   where
-    order : (a b : ℕ) → a ≤ b → (a ≡ b) ⊎ (a < b)
-    order a b le = grind (arith, nat_tests)
+    within : c ≤ max last e → (c ≤ last) ⊎ ((s ≤ c) × (c ≤ e))
+    within le = elim (cases_lt last c) [ inl past ↦ inr (omega (arith, past, touches), omega (arith, past, le)) | inr here ↦ inl here ]
 
-pub no_run : (f : ℕ → Option ℕ) → AreApart f → f 1 ≡ None → Has f 1 → ⊥
-no_run f apart is (t, u, has, from, to) = gone (sym has ∙ ap f (one t from (apart.some t u has).0) ∙ is)
+    to : ((1 ≤ c) × (c ≤ max last e)) ⊎ Has g c → ((1 ≤ c) × (c ≤ last)) ⊎ Has f c
+    to (inl (one, le)) = elim (within le) [ inl here ↦ inl (one, here) | inr there ↦ inr (s, e, at, there.0, there.1) ]
+    to (inr has) = inr (has_left f g s out c has)
+
+    from : ((1 ≤ c) × (c ≤ last)) ⊎ Has f c → ((1 ≤ c) × (c ≤ max last e)) ⊎ Has g c
+    from (inl (one, le)) = inl (one, omega (arith, le))
+    from (inr has) = elim (still f g s e c at out has) [ inl more ↦ inr more | inr here ↦ inl (omega (arith, here.0, (apart.some s e at).0), omega (arith, here.1)) ]
+
+-- clocks that follow those from 1 on are told too
+pub run_told : (last lo hi m c : ℕ) (Other : Type 0) → m ≡ max last hi → 1 ≤ lo → lo ≤ last + 1 → (((1 ≤ c) × (c ≤ m)) ⊎ Other) ↔ ((((1 ≤ c) × (c ≤ last)) ⊎ Other) ⊎ ((lo ≤ c) × (c ≤ hi)))
+run_told last lo hi m c Other is some touches = (to, from)
   where
-    one : (t : ℕ) → t ≤ 1 → 1 ≤ t → t ≡ 1
-    one t le ge = omega arith
+    to : ((1 ≤ c) × (c ≤ m)) ⊎ Other → (((1 ≤ c) × (c ≤ last)) ⊎ Other) ⊎ ((lo ≤ c) × (c ≤ hi))
+    to (inl (one, le)) = elim (cases_lt last c) [ inl past ↦ inr (omega (arith, past, touches), omega (arith, past, le, is)) | inr here ↦ inl (inl (one, here)) ]
+    to (inr other) = inl (inr other)
 
-    gone : Some u ≡ None → ⊥
-    gone h = cc
+    from : (((1 ≤ c) × (c ≤ last)) ⊎ Other) ⊎ ((lo ≤ c) × (c ≤ hi)) → ((1 ≤ c) × (c ≤ m)) ⊎ Other
+    from (inl (inl (one, le))) = inl (one, omega (arith, le, is))
+    from (inl (inr other)) = inr other
+    from (inr (low, high)) = inl (omega (arith, some, low), omega (arith, high, is))
+
+-- clocks that are told behind others, or not
+abbrev pub IsGrown : List (ℕ × ℕ) → List (ℕ × ℕ) → ℕ → ℕ → Type 0
+IsGrown old new lo hi = (c : ℕ) → IsIn new c ↔ (IsIn old c ⊎ ((lo ≤ c) × (c ≤ hi)))
+
+pub told_too : {X E : Type 0} (r : Result X E) (last : ℕ) (old new : List (ℕ × ℕ)) (lo hi : ℕ) → OnOk r (IsGrown old new lo hi)
+    → OnOk r ((c : ℕ) → HasClock (record { last = last; others = new }) c ↔ (HasClock (record { last = last; others = old }) c ⊎ ((lo ≤ c) × (c ≤ hi))))
+told_too (Err e) last old new lo hi grown = tt
+told_too (Ok x) last old new lo hi grown = λ c. (
+  (λ has. elim has [ inl run ↦ inl (inl run) | inr there ↦ elim ((grown c).0 there) [ inl was ↦ inl (inr was) | inr more ↦ inr more ] ]),
+  (λ either. elim either [ inl was ↦ elim was [ inl run ↦ inl run | inr there ↦ inr ((grown c).1 (inl there)) ] | inr more ↦ inr ((grown c).1 (inr more)) ]),
+)
+
+pub not_there_yet : {X E : Type 0} (r : Result X E) (old new : List (ℕ × ℕ)) (lo hi c : ℕ) → OnOk r (IsGrown old new lo hi) → OnErr r ((k : ℕ) → IsIn new k → IsIn old k) → c < lo → (IsIn old c → ⊥) → IsIn new c → ⊥
+not_there_yet (Ok x) old new lo hi c grown lost less none has = elim ((grown c).0 has) [ inl was ↦ none was | inr more ↦ omega (arith, more.0, less) ]
+not_there_yet (Err e) old new lo hi c grown lost less none has = none (lost c has)
 
 -- ---- near and far
 
@@ -222,3 +249,7 @@ far_all f lo hi none t u is = elim (up_to t (hi + 1)) [ inl within ↦ absurd (g
 pub if_none : {X A B : Type 0} (x : Option X) → IfNone x A → (A → B) → IfNone x B
 if_none None h f = f h
 if_none (Some y) h f = tt
+
+pub on_err : {X E A : Type 0} (r : Result X E) → A → OnErr r A
+on_err (Ok x) a = tt
+on_err (Err e) a = a

@@ -7,6 +7,7 @@ use Rattle.pr_stamps.proofs.Places.{below_or}
 use Rattle.pr_vectors.specs.Vector.{IsVector, Covers, clock_of, raised, zero_vector}
 use Rattle.pr_vectors.proofs.Vectors.{clock_of-vector_of, is-vector_of}
 use Rattle.pr_gaps.specs.Rows.{HasPoint}
+use Rattle.pr_gaps.specs.Ranges.{Run}
 use Rattle.pr_gaps.specs.Gaps.{IsToldIn, IsLeastOutside, IsNodeOutside, IsLesser, Told, IsOwnTold}
 use Rattle.pr_vectors.specs.UpTo.{IsLastClock}
 
@@ -100,7 +101,7 @@ least_behind T v n (Some a) le none (lt, covers, out, least) = (
 
 -- ---- one node
 
-pub clock_min : (row : List (List (ℕ × ℕ))) (own n most run m : ℕ) (v : List ℕ) → m ≡ min run most → most ≡ clock_of v n → ¬ (n ≡ own) → ((c : ℕ) → 1 ≤ c → c ≤ run → HasPoint row (record { clock = c; node = n })) → ¬ HasPoint row (record { clock = run + 1; node = n }) → IsLastClock (IsToldIn own v row) v n m
+pub clock_min : (row : List Run) (own n most run m : ℕ) (v : List ℕ) → m ≡ min run most → most ≡ clock_of v n → ¬ (n ≡ own) → ((c : ℕ) → 1 ≤ c → c ≤ run → HasPoint row (record { clock = c; node = n })) → ¬ HasPoint row (record { clock = run + 1; node = n }) → IsLastClock (IsToldIn own v row) v n m
 clock_min row own n most run m v is most_is other within end = (
   omega (arith, is, most_is),
   (λ c one le. inr (within c one (omega (arith, is)))),
@@ -114,14 +115,14 @@ clock_min row own n most run m v is most_is other within end = (
     is_run m run most is less = grind (arith, nat_tests)
 
 -- none of the node's points is covered
-pub clock_none : (row : List (List (ℕ × ℕ))) (own n most : ℕ) (v : List ℕ) → most ≡ clock_of v n → most ≡ 0 → IsLastClock (IsToldIn own v row) v n 0
+pub clock_none : (row : List Run) (own n most : ℕ) (v : List ℕ) → most ≡ clock_of v n → most ≡ 0 → IsLastClock (IsToldIn own v row) v n 0
 clock_none row own n most v is nothing = (
   omega arith,
   (λ c one le. absurd (omega (arith, one, le))),
   (λ less told. absurd (omega (arith, less, is, nothing))),
 )
 
-pub clock_own : (row : List (List (ℕ × ℕ))) (own n most : ℕ) (v : List ℕ) → most ≡ clock_of v n → n ≡ own → IsLastClock (IsToldIn own v row) v n most
+pub clock_own : (row : List Run) (own n most : ℕ) (v : List ℕ) → most ≡ clock_of v n → n ≡ own → IsLastClock (IsToldIn own v row) v n most
 clock_own row own n most v is here = (
   omega (arith, is),
   (λ c one le. inl (here, (one, omega (arith, is)))),

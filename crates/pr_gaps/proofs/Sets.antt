@@ -6,6 +6,7 @@ use Rattle.pr_stamps.specs.Point.{Point}
 use Rattle.pr_names.specs.Span.{Span}
 use Rattle.pr_sets.specs.Spans.{has}
 use Rattle.pr_gaps.specs.Rows.{HasPoint}
+use Rattle.pr_gaps.specs.Ranges.{Run}
 use Rattle.pr_names.specs.Name.{IsName}
 use Rattle.pr_sets.specs.Spans.{Meet}
 use Rattle.pr_vectors.specs.Vector.{clock_of, Covers, join_of, zero_vector}
@@ -15,14 +16,15 @@ use Rattle.pr_sets.specs.Sets.{first_with, rest_of}
 
 -- ---- places
 
-pub none_push : (rows : List (List (List (ℕ × ℕ)))) (row : List (List (ℕ × ℕ))) → ((i : ℕ) (p : Point) → ¬ HasPoint (get_or rows i []) p) → ((p : Point) → ¬ HasPoint row p) → (i : ℕ) (p : Point) → ¬ HasPoint (get_or (rows ++ row ∷ []) i []) p
+pub none_push : (rows : List (List Run)) (row : List Run) → ((i : ℕ) (p : Point) → ¬ HasPoint (get_or rows i []) p) → ((p : Point) → ¬ HasPoint row p) → (i : ℕ) (p : Point) → ¬ HasPoint (get_or (rows ++ row ∷ []) i []) p
 none_push [] row none new zero p = new p
 none_push [] row none new (suc i) p = none i p
 none_push (r ∷ rows) row none new zero p = none 0 p
 none_push (r ∷ rows) row none new (suc i) p = none_push rows row (λ k. none (suc k)) new i p
 
-pub none_at_all : (i : ℕ) (p : Point) → ¬ HasPoint (get_or {A = List (List (ℕ × ℕ))} [] i []) p
-none_at_all i p (s, e, is, from, to) = cc
+pub none_at_all : (i : ℕ) (p : Point) → ¬ HasPoint (get_or {A = List Run} [] i []) p
+none_at_all i p (inl run) = omega (arith, run.0, run.1)
+none_at_all i p (inr (s, e, is, from, to)) = cc
 
 -- ---- sets by number
 
@@ -85,5 +87,5 @@ none_new t lt zero_is none i p (inl own) = none_zero p (omega (arith, own.0, lt)
 none_new t lt zero_is none i p (inr has) = none i p has
 
 -- a row that the index finds is the row at it
-pub at_row : (rows : List (List (List (ℕ × ℕ)))) (i : ℕ) (row : List (List (ℕ × ℕ))) → row ≡ get_or rows i row → i < length rows → row ≡ get_or rows i []
+pub at_row : (rows : List (List Run)) (i : ℕ) (row : List Run) → row ≡ get_or rows i row → i < length rows → row ≡ get_or rows i []
 at_row rows i row is lt = is ∙ get_or_default rows i row [] lt

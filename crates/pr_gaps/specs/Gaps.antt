@@ -7,6 +7,7 @@ use Rattle.pr_sets.specs.Spans.{has, Meet}
 use Rattle.pr_vectors.specs.Vector.{clock_of, Covers, Between, join_of, raised, zero_vector}
 use Rattle.pr_vectors.specs.UpTo.{IsLastClock}
 use Rattle.pr_gaps.specs.Rows.{HasPoint}
+use Rattle.pr_gaps.specs.Ranges.{Run}
 
 -- a node, its declared sets and the rest, its vector, by set and node the told clocks, and whether a call was refused
 -- memory
@@ -15,7 +16,7 @@ pub record Told : Type 0 where
   pub sets : List (List Span)
   pub rest : List Span
   pub vector : List ℕ
-  pub rows : List (List (List (ℕ × ℕ)))
+  pub rows : List (List Run)
   pub spent : Bool
 
 -- ---- the sets
@@ -32,7 +33,7 @@ set_at sets i = set_or sets (rest_of sets) i
 -- ---- the points
 
 -- the point was told for the set of this row: it is the node's own, or a message told it
-abbrev pub IsToldIn : ℕ → List ℕ → List (List (ℕ × ℕ)) → Point → Type 0
+abbrev pub IsToldIn : ℕ → List ℕ → List Run → Point → Type 0
 IsToldIn own v row p = ((p.node ≡ own) × Covers v p) ⊎ HasPoint row p
 
 -- the point was told for the set of this number
@@ -40,7 +41,7 @@ abbrev pub IsTold : Told → ℕ → Point → Type 0
 IsTold t i p = IsToldIn t.node t.vector (slice_index_or t.rows i []) p
 
 -- of one set, by its number: the points between the vectors are told too, if the target does not meet it
-abbrev pub IsTargeted : List ℕ → List ℕ → List Span → List (List Span) → List Span → ℕ → List (List (ℕ × ℕ)) → List (List (ℕ × ℕ)) → Type 0
+abbrev pub IsTargeted : List ℕ → List ℕ → List Span → List (List Span) → List Span → ℕ → List Run → List Run → Type 0
 IsTargeted from to target sets rest i now was =
     (p : Point) → p.node < 32 → HasPoint now p ↔ (HasPoint was p ⊎ (Between from to p × ¬ Meet (has target) (has (slice_index_or sets i rest))))
 

@@ -13,7 +13,7 @@ use crate::row::Row;
 use pr_names::Name;
 use pr_sets::NameSet;
 use pr_stamps::{NoMemory, Seq, Stamp};
-use pr_vectors::{Vector, only_between};
+use pr_vectors::{PackedVector, Vector, only_between};
 use std::alloc::Global;
 use std::marker::Model;
 
@@ -105,7 +105,12 @@ impl Gaps {
     /// The points of a message are told for each set that its target does not meet, and its end is joined to the
     /// vector. It takes time linear in the intervals of the target and of the sets; and for each set and node logarithmic
     /// in the ranges, for each range that is joined.
-    pub fn cover(&mut self, from: &Vector, to: &Vector, target: &NameSet) -> Result<(), NoMemory>
+    pub fn cover(
+        &mut self,
+        from: &PackedVector,
+        to: &PackedVector,
+        target: &NameSet,
+    ) -> Result<(), NoMemory>
         requires span { Le from.now to.now }
         requires from { Le from.now self.old.vector }
         ensures ok { OnOk result (IsCovered self.old self.new from.now to.now target.now) }
@@ -141,8 +146,7 @@ impl Gaps {
         raise(&mut self.vector, clock, self.node);
     }
 
-    /// The least untold point of the set by stamp; None exactly where the set is precise. For each node it takes time
-    /// logarithmic in the ranges.
+    /// The least untold point of the set by stamp; None exactly where the set is precise, in time linear in the nodes.
     pub fn first_untold(&self, index: usize) -> Option<Stamp>
         requires { index ≤ length self.now.sets }
         ensures { IsLeastUntold self.now index result }
@@ -150,8 +154,7 @@ impl Gaps {
         first_untold(&self.rows[index], self.node, &self.vector)
     }
 
-    /// Per node the greatest covered clock up to which each point is told for the set. For each node it takes time
-    /// logarithmic in the ranges.
+    /// Per node the greatest covered clock up to which each point is told for the set, in time linear in the nodes.
     pub fn last_precise(&self, index: usize) -> Vector
         requires { index ≤ length self.now.sets }
         ensures value { IsLastPrecise self.now index result }
@@ -259,8 +262,8 @@ fn cover_rows(
     rows: &mut Vec<Row>,
     sets: &[NameSet],
     rest: &NameSet,
-    from: &Vector,
-    to: &Vector,
+    from: &PackedVector,
+    to: &PackedVector,
     target: &NameSet,
 ) -> Result<(), NoMemory>
     ensures len { length rows.new.items ≡ length rows.old.items }
@@ -279,8 +282,8 @@ fn cover_rows(
 fn cover_row(
     row: &mut Row,
     set: &NameSet,
-    from: &Vector,
-    to: &Vector,
+    from: &PackedVector,
+    to: &PackedVector,
     only: Option<u32>,
     target: &NameSet,
 ) -> Result<(), NoMemory>
@@ -299,8 +302,8 @@ fn cover_row(
 // The points between the vectors are told, which only this node has, if it is given.
 fn cover_between(
     row: &mut Row,
-    from: &Vector,
-    to: &Vector,
+    from: &PackedVector,
+    to: &PackedVector,
     only: Option<u32>,
 ) -> Result<(), NoMemory>
     requires range { IfSome only (λ n. n < 32) }

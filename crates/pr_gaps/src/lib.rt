@@ -1,6 +1,7 @@
 //! The points that a node was told of, for each of its sets of names.
 #![tactic(auto)]
 
+mod clocks;
 mod gaps;
 mod ranges;
 mod row;

@@ -1,8 +1,8 @@
 // Sets of clocks.
-ghost use Rattle.pr_gaps.specs.Ranges.{AreApart, Has, HasClock, end_at};
+ghost use Rattle.pr_gaps.specs.Ranges.{AreApart, IsIn, end_at};
 ghost use Rattle.std.specs.Ordering.{is_eq, is_lt, nat_cmp};
 ghost use Rattle.std.specs.BTreeMap.Range.{IsLeBy};
-ghost use Rattle.std.specs.Prelude.{◌≡◌, ◌≤◌, ◌<◌, ◌+◌, ◌⊎◌, ◌↔◌, ℕ, [], IfNone, IfSome, IsSome, OnOk, None, Some, cond, false};
+ghost use Rattle.std.specs.Prelude.{◌≡◌, ◌≤◌, ◌<◌, ◌+◌, ◌⊎◌, ◌↔◌, ℕ, [], IfNone, IfSome, IsSome, IsTrue, OnErr, OnOk, None, Some, cond, false};
 
 use pr_stamps::{MAX, NoMemory};
 use std::alloc::Global;
@@ -42,7 +42,8 @@ impl Ranges {
         requires some { 1 ≤ lo }
         requires order { lo ≤ hi }
         requires most { hi ≤ 4611686018427387903 }
-        ensures { OnOk result ((c : ℕ) → HasClock self.new c ↔ (HasClock self.old c ⊎ ((lo ≤ c) × (c ≤ hi)))) }
+        ensures ok { OnOk result ((c : ℕ) → IsIn self.new c ↔ (IsIn self.old c ⊎ ((lo ≤ c) × (c ≤ hi)))) }
+        ensures err { OnErr result ((c : ℕ) → IsIn self.new c → IsIn self.old c) }
     {
         let mut last = hi;
         while let Some((start, end)) = touching(&self.ends, lo, last) {
@@ -57,15 +58,26 @@ impl Ranges {
         Ok(())
     }
 
-    // The greatest clock up to which each clock from 1 is in the set, in logarithmic time.
-    pub fn run(&self) -> u64
-        ensures within { (c : ℕ) → 1 ≤ c → c ≤ result → HasClock self.now c }
-        ensures end { ¬ HasClock self.now (result + 1) }
+    pub fn is_empty(&self) -> bool
+        ensures { IsTrue result → (c : ℕ) → ¬ IsIn self.now c }
     {
-        match self.ends.get(&1) {
-            Some(end) => *end,
-            None => 0,
+        self.ends.is_empty()
+    }
+
+    // The ranges that touch the clocks from 1 up to this one go over to them; up to where they go then. It takes time
+    // logarithmic in the ranges, for each that goes, and no memory.
+    pub fn join_run(&mut self, run: u64) -> u64
+        requires { run ≤ 4611686018427387903 }
+        ensures most { result ≤ 4611686018427387903 }
+        ensures same { (c : ℕ) → (((1 ≤ c) × (c ≤ result)) ⊎ IsIn self.new c) ↔ (((1 ≤ c) × (c ≤ run)) ⊎ IsIn self.old c) }
+        ensures end { ¬ IsIn self.new (result + 1) }
+    {
+        let mut reached = run;
+        while let Some((start, end)) = last_up_to(&self.ends, reached + 1) {
+            reached = reached.max(end);
+            self.ends.remove(&start);
         }
+        reached
     }
 }
 

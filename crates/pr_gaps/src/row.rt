@@ -5,22 +5,23 @@ ghost use Rattle.pr_stamps.specs.Point.{Point};
 ghost use Rattle.pr_vectors.specs.Vector.{clock_of};
 ghost use Rattle.std.specs.Prelude.{◌≡◌, ◌≤◌, ◌<◌, ◌+◌, ◌⊎◌, ◌↔◌, ℕ, IfOk, OnOk};
 
-use crate::ranges::Ranges;
+use crate::clocks::Clocks;
 use pr_stamps::{NODES, NoMemory};
-use pr_vectors::Vector;
+use pr_vectors::PackedVector;
 use std::alloc::Global;
 use std::marker::Model;
 
 // By node the clocks that were told.
 #[derive(Drop)]
 pub struct Row {
-    clocks: Vec<Ranges>,
+    clocks: Vec<Clocks>,
 }
 
 impl Model for Row {
-    ghost use Rattle.std.specs.Prelude.{◌≡◌, List, ℕ, length};
+    ghost use Rattle.std.specs.Prelude.{◌≡◌, List, length};
+    ghost use Rattle.pr_gaps.specs.Ranges.{Run};
 
-    ghost Value = { List (List (ℕ × ℕ)) };
+    ghost Value = { List Run };
 
     ghost view = { λ r. r.clocks.items };
 
@@ -33,13 +34,13 @@ impl Row {
     {
         let mut clocks = Vec::with_capacity(alloc, NODES as usize)?;
         for _ in 0..NODES {
-            clocks.push(Ranges::new(alloc))?;
+            clocks.push(Clocks::new(alloc))?;
         }
         Ok(Row { clocks })
     }
 
     // The points between the vectors are told.
-    pub fn cover(&mut self, from: &Vector, to: &Vector) -> Result<(), NoMemory>
+    pub fn cover(&mut self, from: &PackedVector, to: &PackedVector) -> Result<(), NoMemory>
         ensures { OnOk result (IsRowCovered self.old self.new from.now to.now) }
     {
         for n in 0..to.nodes() {
@@ -53,7 +54,12 @@ impl Row {
     }
 
     // The same, where this node alone has points between the vectors. It looks at no other.
-    pub fn cover_one(&mut self, node: u32, from: &Vector, to: &Vector) -> Result<(), NoMemory>
+    pub fn cover_one(
+        &mut self,
+        node: u32,
+        from: &PackedVector,
+        to: &PackedVector,
+    ) -> Result<(), NoMemory>
         requires node { node < 32 }
         requires rises { clock_of from.now node < clock_of to.now node }
         requires alone { (k : ℕ) → k < 32 → clock_of from.now k < clock_of to.now k → k ≡ node }

@@ -2,7 +2,7 @@ use crate::Gaps;
 use pr_names::Name;
 use pr_sets::NameSet;
 use pr_stamps::{Seq, Stamp};
-use pr_vectors::Vector;
+use pr_vectors::{PackedVector, Vector};
 use std::alloc::Global;
 use std::test::Fail;
 
@@ -32,9 +32,10 @@ fn up_to(clock: u64, node: u32) -> Vector {
 // A message of A up to this clock.
 fn tell(alloc: Global, gaps: &mut Gaps, clock: u64, target: &[u8]) -> Result<(), Fail> {
     let target = set(alloc, target)?;
-    let from = Vector::zero();
-    let to = up_to(clock, A);
-    if !from.le(&to) || !from.le(gaps.vector()) {
+    let from = PackedVector::zero();
+    let vector = up_to(clock, A);
+    let to = PackedVector::of(alloc, &vector).ok().ok_or("no memory")?;
+    if !from.le(&vector) || !from.le(gaps.vector()) {
         return Err(Fail::from("a span"));
     }
     Ok(gaps.cover(&from, &to, &target).ok().ok_or("no memory")?)

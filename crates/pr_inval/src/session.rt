@@ -7,7 +7,7 @@ use crate::sent_bodies::SentBodies;
 use pr_names::Name;
 use pr_sets::NameSet;
 use pr_stamps::{NoMemory, Stamp};
-use pr_vectors::Vector;
+use pr_vectors::{Clocked, Vector};
 use std::alloc::Global;
 use std::marker::Model;
 
@@ -151,11 +151,11 @@ impl Session {
     }
 
     /// Notes a message that was sent, which ends at this vector.
-    pub fn sent(&mut self, to: &Vector, time: u64)
+    pub fn sent<V: Clocked>(&mut self, to: &V, time: u64)
         requires attached { IsTrue (means self.old).attached }
         requires later { (means self.old).standing.time < time }
         requires most { time ≤ 4611686018427387903 }
-        ensures { HasSent (means self.old) (means self.new) to.now time }
+        ensures { HasSent (means self.old) (means self.new) (V.clocks to.now) time }
     {
         self.number += 1;
         self.pos.join_in(to);

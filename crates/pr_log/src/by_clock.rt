@@ -84,6 +84,7 @@ impl ByClock {
     // The first write above the clock with its clock, and the place at which it was found. It is looked for at this place
     // and the next one, in constant time, and then in time logarithmic in the writes above it; and among the late ones in
     // time logarithmic in these.
+    #[inline(never)]
     pub fn first_above(&self, clock: u64, place: &mut usize) -> Option<(u64, &WriteRec)>
         ensures { IsFirstEntry self.now clock (entry_of result) }
     {

@@ -11,7 +11,7 @@ use crate::collector::Collector;
 use crate::segments::Segments;
 use pr_sets::NameSet;
 use pr_stamps::{NODES, NoMemory};
-use pr_vectors::Vector;
+use pr_vectors::{Clocked, PackedVector, Vector};
 use std::alloc::Global;
 use std::marker::Model;
 
@@ -48,8 +48,8 @@ impl Dark {
     pub fn refine(
         &mut self,
         own: u32,
-        from: &Vector,
-        to: &Vector,
+        from: &PackedVector,
+        to: &PackedVector,
         target: &NameSet,
     ) -> Result<(), NoMemory>
         ensures { OnOk result (IsLitToo own self.old self.new from.now to.now target.now) }
@@ -89,20 +89,21 @@ impl Dark {
 fn refine_rows(
     rows: &mut Vec<Segments>,
     own: u32,
-    from: &Vector,
-    to: &Vector,
+    from: &PackedVector,
+    to: &PackedVector,
     target: &NameSet,
 ) -> Result<(), NoMemory>
     requires { length rows.old.items ≡ 32 }
     ensures len { length rows.new.items ≡ 32 }
     ensures each { OnOk result ((n : ℕ) → n < 32 → ¬ (n ≡ own) → IsRowRefined (clock_of from.now n) (clock_of to.now n) target.now (sets_of rows.old.items n) (sets_of rows.new.items n)) }
 {
-    for n in 0..to.nodes() {
-        let (from, to) = (from.at(n), to.at(n));
-        if from < to && n != own {
+    let mut start = 0;
+    while let Some(n) = to.next_above(from, start) {
+        if n != own {
             let row = &mut rows[n as usize];
-            row.refine(from + 1, to, target)?;
+            row.refine(from.at(n) + 1, to.at(n), target)?;
         }
+        start = n + 1;
     }
     Ok(())
 }

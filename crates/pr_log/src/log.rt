@@ -15,7 +15,7 @@ use crate::{Near, Steps, waiting};
 use pr_inval::WriteRec;
 use pr_sets::NameSet;
 use pr_stamps::NoMemory;
-use pr_vectors::Vector;
+use pr_vectors::{PackedVector, Vector};
 use std::alloc::Global;
 use std::marker::{Brand, Model};
 use std::sync::ledger::{Blank, Ledger};
@@ -91,8 +91,8 @@ impl Log {
     /// and linear in the intervals of that set and of the target.
     pub fn refine(
         &mut self,
-        from: &Vector,
-        to: &Vector,
+        from: &PackedVector,
+        to: &PackedVector,
         target: &NameSet,
         write: Option<&WriteRec>,
     ) -> Result<(), NoMemory>
@@ -116,7 +116,7 @@ impl Log {
 
     /// Covers points at which every name is dark but at own points, as a checkpoint does, in constant time. It takes no
     /// memory: a spent log alone refuses it.
-    pub fn darken(&mut self, to: &Vector) -> Result<(), NoMemory>
+    pub fn darken(&mut self, to: &PackedVector) -> Result<(), NoMemory>
         ensures ok { OnOk result (IsDarkened self.old self.new to.now) }
         ensures works { OnOk result (self.new.spent ≡ false) }
         ensures err { OnErr result (self.new.spent ≡ true) }

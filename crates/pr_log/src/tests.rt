@@ -7,7 +7,7 @@ use pr_inval::WriteRec;
 use pr_names::Name;
 use pr_sets::NameSet;
 use pr_stamps::{Seq, Stamp};
-use pr_vectors::Vector;
+use pr_vectors::{PackedVector, Vector};
 use std::alloc::Global;
 use std::marker::Brand;
 use std::sync::ledger::{Blank, Ledger};
@@ -23,6 +23,15 @@ fn log(alloc: Global) -> Result<Log, Fail>
 {
     match Log::new(alloc, B) {
         Ok(log) => Ok(log),
+        Err(_) => Err(Fail::from("no memory")),
+    }
+}
+
+fn packed(alloc: Global, vector: &Vector) -> Result<PackedVector, Fail>
+    ensures { IfOk result (λ packed. packed ≡ vector.now) }
+{
+    match PackedVector::of(alloc, vector) {
+        Ok(packed) => Ok(packed),
         Err(_) => Err(Fail::from("no memory")),
     }
 }
@@ -62,7 +71,13 @@ fn tell(
     if !from.le(to) || !from.le(log.vector()) {
         return Err(Fail::from("a span"));
     }
-    Ok(log.refine(from, to, &target, None).ok().ok_or("no memory")?)
+    let from = packed(alloc, from)?;
+    let to = packed(alloc, to)?;
+    Ok(
+        log.refine(&from, &to, &target, None)
+            .ok()
+            .ok_or("no memory")?,
+    )
 }
 
 // A precise invalidation of one write of A.
@@ -76,6 +91,8 @@ fn tell_write(alloc: Global, log: &mut Log, name: &[u8], clock: u64) -> Result<(
     if !from.le(&to) || !from.le(log.vector()) {
         return Err(Fail::from("a span"));
     }
+    let from = packed(alloc, &from)?;
+    let to = packed(alloc, &to)?;
     match log.refine(&from, &to, &none, Some(&write)) {
         Ok(()) => Ok(()),
         Err(_) => Err(Fail::from("no memory")),
@@ -149,7 +166,9 @@ fn targets_narrow_what_is_dark(rt: HostRuntime) -> Result<(), Fail> {
 fn new_points_are_dark_but_own_ones_are_lit(rt: HostRuntime) -> Result<(), Fail> {
     let mut log = log(rt.alloc())?;
     tell(rt.alloc(), &mut log, &Vector::zero(), &up_to(4, A), b"b")?;
-    log.darken(&up_to(6, A)).ok().ok_or("no memory")?;
+    log.darken(&packed(rt.alloc(), &up_to(6, A))?)
+        .ok()
+        .ok_or("no memory")?;
     tell(rt.alloc(), &mut log, &Vector::zero(), &up_to(3, B), b"*")?;
     let others = dark(rt.alloc(), &log, &up_to(4, A), &up_to(6, A))?;
     let own = dark(rt.alloc(), &log, &Vector::zero(), &up_to(3, B))?;

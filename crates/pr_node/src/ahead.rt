@@ -35,8 +35,8 @@ pub struct Withheld {
     pub omitted: NameSet,
 }
 
-// The invalidation for these names from a position that the vector is past, as the session's next message. It is made where
-// it is answered, and in calls of their own, since each move copies it.
+// The invalidation for these names from a position that the vector is past, as the session's next message. It is made
+// where it is answered, and in calls of their own, since each move copies it.
 #[inline(never)]
 pub fn ahead(
     alloc: Global,
@@ -66,8 +66,8 @@ pub fn ahead(
     imprecise(alloc, &found, names, position, &before, session, time)
 }
 
-// The invalidation up to the log's vector, where no write waits. It has a vector of its own, which
-// a call that finds a write need not clear.
+// The invalidation up to the log's vector, where no write waits. It has a vector of its own, which a call that finds a
+// write need not clear.
 #[inline(never)]
 fn rest(
     alloc: Global,

@@ -71,12 +71,10 @@ fn take_precise(
     ensures bodies { OnOk result (IsSettled stores.old.bodies stores.new.bodies write.now.name write.now.stamp) }
     ensures sets { stores.new.gaps.sets ≡ stores.old.gaps.sets }
 {
-    let from = from.get();
-    let to = to.get();
     let none = NameSet::empty(alloc);
     let known = stores.log.knows(write);
-    refine(&mut stores.log, &from, &to, &none, write, known)?;
-    stores.gaps.cover(&from, &to, &none)?;
+    refine(&mut stores.log, from, to, &none, write, known)?;
+    stores.gaps.cover(from, to, &none)?;
     stores.bodies.settle(&write.name, &write.stamp);
     mark(&mut stores.marks, write, known)?;
     Ok(())
@@ -85,8 +83,8 @@ fn take_precise(
 // A write that was known before is looked up no more.
 fn refine(
     log: &mut Log,
-    from: &Vector,
-    to: &Vector,
+    from: &PackedVector,
+    to: &PackedVector,
     target: &NameSet,
     write: &WriteRec,
     known: bool,
@@ -129,10 +127,8 @@ fn take_imprecise(
     ensures bodies { OnOk result (stores.new.bodies ≡ stores.old.bodies) }
     ensures sets { stores.new.gaps.sets ≡ stores.old.gaps.sets }
 {
-    let from = from.get();
-    let to = to.get();
-    stores.log.refine(&from, &to, target, None)?;
-    stores.gaps.cover(&from, &to, target)?;
+    stores.log.refine(from, to, target, None)?;
+    stores.gaps.cover(from, to, target)?;
     Ok(())
 }
 
@@ -148,13 +144,12 @@ fn take_checkpoint(
     ensures bodies { OnOk result (AreSettled stores.old.bodies stores.new.bodies rows.now) }
     ensures sets { stores.new.gaps.sets ≡ stores.old.gaps.sets }
 {
-    let to = to.get();
     let floor = floor.get();
-    stores.log.darken(&to)?;
+    stores.log.darken(to)?;
     pr_snap::apply(
         &mut stores.gaps,
         &mut stores.marks,
-        &to,
+        to,
         target,
         &floor,
         rows,

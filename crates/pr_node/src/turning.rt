@@ -43,11 +43,11 @@ pub fn next_turn(
 {
     let _ = session.number();
     session.room()?;
-    next_event(alloc, stores, journal, session, scan, time)
+    next_step(alloc, stores, journal, session, scan, time)
 }
 
 // The same, without a look at the room.
-fn next_event(
+fn next_step(
     alloc: Global,
     stores: &Stores,
     journal: &Journal,
@@ -196,7 +196,7 @@ pub fn note_sent(session: &mut Session, kind: &Kind, time: u64)
     match kind {
         Kind::Body { name, stamp, .. } => session.sent_body(name, stamp, time),
         Kind::Precise { to, .. } | Kind::Imprecise { to, .. } | Kind::Checkpoint { to, .. } => {
-            session.sent(&to.get(), time);
+            session.sent(to, time);
         }
     }
 }

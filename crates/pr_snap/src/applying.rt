@@ -8,7 +8,7 @@ use pr_marks::{Marks, Newest};
 use pr_names::Name;
 use pr_sets::NameSet;
 use pr_stamps::{Mark, NoMemory};
-use pr_vectors::Vector;
+use pr_vectors::{PackedVector, Vector};
 
 /// Takes the parts of a checkpoint. Its points are covered from zero; each row raises the newest stamp of its name, and
 /// then its marks are added, with no delete among them; at last what the floor covers is forgotten. The time is that of
@@ -17,7 +17,7 @@ use pr_vectors::Vector;
 pub fn apply(
     gaps: &mut Gaps,
     marks: &mut Marks,
-    to: &Vector,
+    to: &PackedVector,
     target: &NameSet,
     floor: &Vector,
     rows: &[Row],
@@ -29,7 +29,7 @@ pub fn apply(
     ensures err { OnErr result ((gaps.new.spent ≡ true) ⊎ (marks.new.spent ≡ true)) }
     ensures spent { gaps.old.spent ≡ true → IsErr result }
 {
-    let from = Vector::zero();
+    let from = PackedVector::zero();
     gaps.cover(&from, to, target)?;
     add_rows(marks, rows)?;
     marks.forget(floor);

@@ -5,7 +5,7 @@ use pr_marks::{Marks, Newest};
 use pr_names::Name;
 use pr_sets::NameSet;
 use pr_stamps::{Mark, Seq, Stamp};
-use pr_vectors::Vector;
+use pr_vectors::{PackedVector, Vector};
 use std::alloc::Global;
 use std::test::Fail;
 
@@ -59,12 +59,13 @@ fn take(
     target: &[u8],
     rows: &[Row],
 ) -> bool {
-    match NameSet::read(alloc, target, 16) {
-        Ok(target) => {
-            let (to, floor) = (up_to(clocks.0), up_to(clocks.1));
+    let to = PackedVector::of(alloc, &up_to(clocks.0));
+    match (to, NameSet::read(alloc, target, 16)) {
+        (Ok(to), Ok(target)) => {
+            let floor = up_to(clocks.1);
             apply(&mut stores.0, &mut stores.1, &to, &target, &floor, rows).is_ok()
         }
-        Err(_) => false,
+        _ => false,
     }
 }
 

@@ -8,6 +8,10 @@ use Rattle.pr_text.specs.declared.vector_text.VectorText.{VectorText}
 abbrev pub IsTextOf : List (List ℕ) → VectorText → Type 0
 IsTextOf labels v = (v.text ≡ []) ⊎ (v.text ≡ more 44 (clocks labels 0 v.vector))
 
+-- each of them is such a text
+abbrev pub AreTextsOf : List (List ℕ) → List VectorText → Type 0
+AreTextsOf labels vs = (k : ℕ) (d : VectorText) → k < length vs → IsTextOf labels (slice_index_or vs k d)
+
 -- the clocks of the vector, each behind a comma, are the text but for what stands between the places, where the node's is
 pub record IsBut (labels : List (List ℕ)) (text v : List ℕ) (node start end : ℕ) : Type 0 where
   pub known : node < length labels

@@ -2,15 +2,15 @@
 ghost use Rattle.pr_script.specs.Labels.{labels_of};
 ghost use Rattle.pr_script.specs.declared.kind.Kind.TheVariants as kinds;
 ghost use Rattle.pr_text.specs.Texts.{AreOfNodes, clocks, listed};
-ghost use Rattle.std.specs.Prelude.{◌≡◌, ◌++◌, [], IfSome, OnOk};
+ghost use Rattle.pr_text.specs.Kept.{AreTextsOf};
+ghost use Rattle.std.specs.Prelude.{◌≡◌, ◌++◌, [], ℕ, IfOk, IfSome, List, OnOk};
 
-use crate::packed::clock_at;
 use crate::piece::Piece;
 use crate::pieces::{pieces_of, push_pieces};
-use crate::vector_text::VectorText;
+use crate::vector_text::{VectorText, first_above};
 use pr_inval::Kind as Told;
 use pr_script::{Bytes, Decls, Kind};
-use pr_stamps::NoMemory;
+use pr_stamps::{NoMemory, Seq};
 use pr_story::Event;
 use pr_vectors::PackedVector;
 use std::alloc::Global;
@@ -20,25 +20,30 @@ use std::mem;
 // With fewer nodes no texts are kept: it would cost what it saves.
 const FEWEST: usize = 3;
 
-/// The text of a clock of each node, or of none, and those of where the message that was sent last starts and ends: the
-/// lines that come behind it have these vectors again, or most of their clocks. Contracts see it as these nodes' labels.
+/// The text of a clock of each node, or of none; those of where the message that was sent last starts and ends; and for
+/// each node the one of its own vector that a line told last. The lines to come have these vectors again, or most of their
+/// clocks. Contracts see it as these nodes' labels.
 #[derive(Drop)]
 pub struct ClockTexts {
     alloc: Global,
     pieces: Vec<Piece>,
     from: VectorText,
     to: VectorText,
+    own: Vec<VectorText>,
+    // The node of the line at hand.
+    node: usize,
+    spare: Bytes,
 }
 
 impl Model for ClockTexts {
     ghost use Rattle.std.specs.Prelude.{List, ℕ};
-    ghost use Rattle.pr_text.specs.Kept.{IsTextOf};
+    ghost use Rattle.pr_text.specs.Kept.{AreTextsOf, IsTextOf};
 
     ghost Value = { List (List ℕ) };
 
     ghost view = { λ k. k.pieces.items };
 
-    ghost invariant = { λ k. IsTextOf k.pieces.items k.from × IsTextOf k.pieces.items k.to };
+    ghost invariant = { λ k. IsTextOf k.pieces.items k.from × IsTextOf k.pieces.items k.to × AreTextsOf k.pieces.items k.own.items };
 }
 
 impl ClockTexts {
@@ -51,6 +56,9 @@ impl ClockTexts {
             pieces: Vec::new(alloc),
             from: VectorText::new(alloc),
             to: VectorText::new(alloc),
+            own: Vec::new(alloc),
+            node: 0,
+            spare: Seq::new(alloc),
         }
     }
 
@@ -66,12 +74,17 @@ impl ClockTexts {
         ensures nodes { AreOfNodes decls.now.list self.new }
     {
         if self.pieces.is_empty() {
-            let pieces = pieces_of(self.alloc, decls.labels(Kind::Node))?;
+            let labels = decls.labels(Kind::Node);
+            let pieces = pieces_of(self.alloc, labels)?;
+            let own = no_texts(self.alloc, labels.len())?;
             *self = ClockTexts {
                 alloc: self.alloc,
                 pieces,
                 from: VectorText::new(self.alloc),
                 to: VectorText::new(self.alloc),
+                own,
+                node: 0,
+                spare: Seq::new(self.alloc),
             };
         }
         Ok(())
@@ -94,18 +107,44 @@ impl ClockTexts {
     {
         match self.to.of(vector) {
             Some(kept) => Some(kept),
-            None => self.from.of(vector),
+            None => self.kept_before(vector),
         }
     }
 
-    // Keeps where a sent message starts and ends: the vectors of its line, and most of those of the lines to come.
-    pub(crate) fn expect(&mut self, event: &Event) -> Result<(), NoMemory>
+    // The same, but for where the message that was sent last ends.
+    fn kept_before(&self, vector: &PackedVector) -> Option<&[u8]>
+        ensures { IfSome result (λ kept. kept.now ≡ listed (clocks self.now 0 vector.now)) }
+    {
+        match (self.from.of(vector), self.own.get(self.node)) {
+            (Some(kept), _) => Some(kept),
+            (None, Some(own)) => own.of(vector),
+            (None, None) => None,
+        }
+    }
+
+    // Keeps where a message that the node sends starts and ends, or the node's own vector: those of the event's line, and
+    // most of those of the lines to come.
+    pub(crate) fn expect(&mut self, node: u32, event: &Event) -> Result<(), NoMemory>
         ensures { self.new ≡ self.old }
     {
+        self.node = node as usize;
         match event {
             Event::Sent { msg } => self.keep(&msg.kind),
+            Event::Accepted { at, .. }
+            | Event::Wrote { after: at, .. }
+            | Event::Answered { at, .. } => self.keep_own(at),
             _ => Ok(()),
         }
+    }
+
+    // Unless the message that was sent last starts or ends there.
+    fn keep_own(&mut self, vector: &PackedVector) -> Result<(), NoMemory>
+        ensures { self.new ≡ self.old }
+    {
+        if self.kept(vector).is_some() || self.node >= self.own.len() {
+            return Ok(());
+        }
+        self.own[self.node].renew(self.alloc, &mut self.pieces, &mut self.spare, vector)
     }
 
     fn keep(&mut self, kind: &Told) -> Result<(), NoMemory>
@@ -118,7 +157,7 @@ impl ClockTexts {
                 self.keep_to(to, node)
             }
             Told::Imprecise { from, to, .. } => {
-                let node = first_above(self.pieces.len(), from, to);
+                let node = first_above(from, to);
                 self.keep_from(from, node)?;
                 self.keep_to(to, node)
             }
@@ -147,12 +186,13 @@ impl ClockTexts {
     }
 }
 
-// The first of so many nodes at which the second vector is above the first, if there is one.
-fn first_above(nodes: usize, from: &PackedVector, to: &PackedVector) -> usize {
-    for node in 0..nodes {
-        if clock_at(from, node) < clock_at(to, node) {
-            return node;
-        }
+// No text for each node.
+fn no_texts(alloc: Global, nodes: usize) -> Result<Vec<VectorText>, NoMemory>
+    ensures { (labels : List (List ℕ)) → IfOk result (λ own. AreTextsOf labels own.items) }
+{
+    let mut own = Vec::new(alloc);
+    for _ in 0..nodes {
+        own.push(VectorText::new(alloc))?;
     }
-    0
+    Ok(own)
 }

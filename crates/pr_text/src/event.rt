@@ -72,7 +72,7 @@ fn make_next(
         return make_line(&Stock::of(decls), node, event, text);
     }
     clocks.begin(decls)?;
-    clocks.expect(event)?;
+    clocks.expect(node, event)?;
     make_line(&Stock::with(decls, clocks), node, event, text)
 }
 

@@ -37,14 +37,10 @@ pub fn clock_at(vector: &PackedVector, node: usize) -> u64
     if node < 32 { vector.at(node as u32) } else { 0 }
 }
 
-/// Whether two vectors have the same clocks of the first nodes, so many of them, but for this one.
-pub fn is_same_but(a: &PackedVector, b: &PackedVector, node: usize, nodes: usize) -> bool
-    ensures { IsTrue result → (n : ℕ) → n < nodes → (n ≡ node → ⊥) → clock_of a.now n ≡ clock_of b.now n }
+/// Whether two vectors are the same but for the clock of this node.
+pub fn is_same_but(a: &PackedVector, b: &PackedVector, node: usize) -> bool
+    ensures { IsTrue result → (n : ℕ) → (n ≡ node → ⊥) → clock_of a.now n ≡ clock_of b.now n }
 {
-    for n in 0..nodes {
-        if n != node && clock_at(a, n) != clock_at(b, n) {
-            return false;
-        }
-    }
-    true
+    let _in_range = (a.at(0), b.at(0));
+    node < 32 && a.is_but(b, node as u32)
 }

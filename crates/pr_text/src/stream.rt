@@ -119,14 +119,14 @@ pub fn push_down(
     push_cause(cause, text)
 }
 
-// Adds the first word and the stream.
+// Adds the first word, with its blank, and the stream.
 fn push_stream(word: &[u8], decls: &Decls, stream: u32, text: &mut Bytes) -> Result<(), NoMemory>
     ensures { OnOk result (text.new ≡ text.old ++ (word.now ++ label_text kinds.Stream decls.now.list stream)) }
 {
     push_about(word, decls, Kind::Stream, stream, text)
 }
 
-// Adds the first word, the message's stream and its number.
+// Adds the first word, with its blank, the message's stream and its number.
 fn push_message(word: &[u8], decls: &Decls, msg: &Msg, text: &mut Bytes) -> Result<(), NoMemory>
     ensures { OnOk result (text.new ≡ text.old ++ (word.now ++ (label_text kinds.Stream decls.now.list msg.now.stream ++ 32 ∷ decimal msg.now.number))) }
 {

@@ -9,16 +9,15 @@ use crate::piece::Piece;
 use crate::pieces::{keep_piece, keep_pieces, push_parts, start_of};
 use pr_script::Bytes;
 use pr_stamps::{NoMemory, Seq};
-use pr_vectors::PackedVector;
+use pr_vectors::{Clocked, PackedVector};
 use std::alloc::Global;
+use std::mem;
 
-// A vector and the text of its clocks, each behind a comma, which is empty where none is kept. Another vector mostly has
-// another clock of this node, so that is looked at first.
+// A vector and the text of its clocks, each behind a comma, which is empty where none is kept.
 #[derive(Drop)]
 pub struct VectorText {
     vector: PackedVector,
     text: Bytes,
-    node: usize,
 }
 
 impl VectorText {
@@ -29,7 +28,6 @@ impl VectorText {
         VectorText {
             vector: PackedVector::zero(),
             text: Seq::new(alloc),
-            node: 0,
         }
     }
 
@@ -37,17 +35,10 @@ impl VectorText {
     pub fn of(&self, vector: &PackedVector) -> Option<&[u8]>
         ensures { (labels : List (List ℕ)) → IsTextOf labels self.now → IfSome result (λ text. text.now ≡ listed (clocks labels 0 vector.now)) }
     {
-        if self.text.is_empty() {
+        if self.text.is_empty() || !self.vector.is(vector) {
             return None;
         }
-        if clock_at(&self.vector, self.node) != clock_at(vector, self.node) {
-            return None;
-        }
-        if self.vector.is(vector) {
-            Some(&self.text.as_slice()[1..])
-        } else {
-            None
-        }
+        Some(&self.text.as_slice()[1..])
     }
 
     // Keeps the vector's text in place of what was kept, and of its clocks those that change. The text is that of the other
@@ -69,16 +60,56 @@ impl VectorText {
             return Ok(());
         }
         self.text.truncate(0);
-        self.node = node;
         self.vector = vector.copy(alloc)?;
-        match place_in(pieces, other, vector, node) {
+        let place = place_in(pieces, other, vector, node);
+        self.make(pieces, other.text.as_slice(), place, node)
+    }
+
+    // Keeps the text of a vector that comes behind the kept one, which mostly has one clock that is greater. The kept text,
+    // of which it is made then, goes to `spare`.
+    pub fn renew(
+        &mut self,
+        alloc: Global,
+        pieces: &mut [Piece],
+        spare: &mut Bytes,
+        vector: &PackedVector,
+    ) -> Result<(), NoMemory>
+        requires { IsTextOf pieces.old self.old }
+        ensures pieces { pieces.new ≡ pieces.old }
+        ensures text { IsTextOf pieces.old self.new }
+    {
+        if self.of(vector).is_some() {
+            return Ok(());
+        }
+        let node = first_above(&self.vector, vector);
+        let place = place_in(pieces, self, vector, node);
+        mem::swap(&mut self.text, spare);
+        self.text.truncate(0);
+        self.vector = vector.copy(alloc)?;
+        self.make(pieces, spare.as_slice(), place, node)
+    }
+
+    // Makes the vector's text of another, where it is known between which places the clock of this node stands in that.
+    fn make(
+        &mut self,
+        pieces: &mut [Piece],
+        other: &[u8],
+        place: Option<(usize, usize)>,
+        node: usize,
+    ) -> Result<(), NoMemory>
+        requires none { self.old.text ≡ [] }
+        requires but { IfSome place (λ p. IsBut pieces.old other.now self.old.vector node p.0 p.1) }
+        ensures pieces { pieces.new ≡ pieces.old }
+        ensures text { IsTextOf pieces.old self.new }
+    {
+        match place {
             Some((start, end)) => {
-                let clock = clock_at(vector, node);
+                let clock = clock_at(&self.vector, node);
                 keep_piece(&mut pieces[node], clock)?;
-                self.splice(&pieces[node], clock, other.text.as_slice(), start, end)
+                self.splice(&pieces[node], clock, other, start, end)
             }
             None => {
-                keep_pieces(pieces, vector)?;
+                keep_pieces(pieces, &self.vector)?;
                 self.fill(pieces)
             }
         }
@@ -158,9 +189,17 @@ fn place_in(
     }
     let start = start_of(pieces, &other.vector, node)?;
     let len = pieces[node].len_of(clock_at(&other.vector, node))?;
-    if is_same_but(&other.vector, vector, node, pieces.len()) {
+    if is_same_but(&other.vector, vector, node) {
         Some((start, start.checked_add(len)?))
     } else {
         None
+    }
+}
+
+/// The first node at which the second vector is above the first, if there is one.
+pub fn first_above(from: &PackedVector, to: &PackedVector) -> usize {
+    match to.next_above(from, 0) {
+        Some(node) => node as usize,
+        None => 0,
     }
 }

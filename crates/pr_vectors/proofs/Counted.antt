@@ -95,20 +95,6 @@ is_last v n lt is behind some = has_count v (n + 1) is (omega (arith, lt)) behin
 pub last_counts : (v : List ℕ) (n : ℕ) → HasCount v n → (m : ℕ) → n ≡ suc m → get_or v m 0 ≡ 0 → ⊥
 last_counts v n h m e z = (counted_has v).last m (sym h.exact ∙ e) z
 
--- joined vectors count as far as the one that counts further
-pub joined_count : (v w cs : List ℕ) (a b : ℕ) → HasCount v a → HasCount w b → IsVector cs → ((k : ℕ) → k < 32 → get_or cs k 0 ≡ max (get_or v k 0) (get_or w k 0)) → ((k : ℕ) → max a b ≤ k → k < 32 → get_or cs k 0 ≡ 0) → HasCount cs (max a b)
-joined_count v w cs a b hv hw is each behind = has_count cs (max a b) is (omega (arith, hv.few, hw.few)) behind (λ m e z. by m e z (cases_lt a (max a b)))
-  where
-    by : (m : ℕ) → max a b ≡ suc m → get_or cs m 0 ≡ 0 → (a < max a b) ⊎ (max a b ≤ a) → ⊥
-    by m e z (inl less) =
-        let lt : m < 32 = omega (arith, e, hv.few, hw.few) in
-        let at : get_or cs m 0 ≡ max (get_or v m 0) (get_or w m 0) = each m lt in
-        last_counts w b hw m (omega (arith, e, less)) (omega (arith, at, z))
-    by m e z (inr most) =
-        let lt : m < 32 = omega (arith, e, hv.few, hw.few) in
-        let at : get_or cs m 0 ≡ max (get_or v m 0) (get_or w m 0) = each m lt in
-        last_counts v a hv m (omega (arith, e, most)) (omega (arith, at, z))
-
 -- behind both there is 0 where one clock is set
 pub set_behind : (v : List ℕ) (n i c : ℕ) → HasCount v n → (k : ℕ) → max n (i + 1) ≤ k → k < 32 → get_or (set v i c) k 0 ≡ 0
 set_behind v n i c h k le lt = get_or-set_other v i k c 0 (λ e. absurd (omega (arith, e, le))) ∙ h.behind k (omega (arith, le)) lt
@@ -146,22 +132,19 @@ joins_more cs old n c g within is done rest k lt = by (below_or k n lt)
     by (inl less) = get_or-set_other cs n k c 0 (λ e. absurd (omega (arith, e, less))) ∙ done k less
     by (inr same) = subst (λ i. get_or (set cs n c) i 0 ≡ max (get_or old i 0) (g i)) (sym same) here
 
--- a join counts as far as the vector that counts further
-pub join_counts : (v w : List ℕ) (a b : ℕ) → HasCount v a → HasCount w b → HasCount (join_of v w) (max a b)
-join_counts v w a b hv hw = joined_count v w (join_of v w) a b hv hw is each behind
-  where
-    each : (k : ℕ) → k < 32 → get_or (join_of v w) k 0 ≡ max (get_or v k 0) (get_or w k 0)
-    each k h = clock_of-vector_of _ k h
+-- a join is in range, and does not count further than either vector
+join_at : (v w : List ℕ) (k : ℕ) → k < 32 → get_or (join_of v w) k 0 ≡ max (get_or v k 0) (get_or w k 0)
+join_at v w k h = clock_of-vector_of (λ n. max (get_or v n 0) (get_or w n 0)) k h
 
-    is : IsVector (join_of v w)
-    is = is_in_range (λ k. max (get_or v k 0) (get_or w k 0)) (join_of v w) (length-vector_of _) each (λ k h. omega (arith, hv.vector.most k h, hw.vector.most k h))
+pub join_is : (v w : List ℕ) → IsVector v → IsVector w → IsVector (join_of v w)
+join_is v w hv hw = is_in_range (λ k. max (get_or v k 0) (get_or w k 0)) (join_of v w) (length-vector_of _) (join_at v w) (λ k h. omega (arith, hv.most k h, hw.most k h))
 
-    behind : (k : ℕ) → max a b ≤ k → k < 32 → get_or (join_of v w) k 0 ≡ 0
-    behind k le h =
-        let at : get_or (join_of v w) k 0 ≡ max (get_or v k 0) (get_or w k 0) = each k h in
-        let one : get_or v k 0 ≡ 0 = hv.behind k (omega (arith, le)) h in
-        let other : get_or w k 0 ≡ 0 = hw.behind k (omega (arith, le)) h in
-        omega (arith, at, one, other)
+pub join_behind : (v w : List ℕ) (a b : ℕ) → HasCount v a → ((k : ℕ) → b ≤ k → k < 32 → get_or w k 0 ≡ 0) → (k : ℕ) → max a b ≤ k → k < 32 → get_or (join_of v w) k 0 ≡ 0
+join_behind v w a b hv none k le h =
+    let at : get_or (join_of v w) k 0 ≡ max (get_or v k 0) (get_or w k 0) = join_at v w k h in
+    let one : get_or v k 0 ≡ 0 = hv.behind k (omega (arith, le)) h in
+    let other : get_or w k 0 ≡ 0 = none k (omega (arith, le)) h in
+    omega (arith, at, one, other)
 
 -- what is joined in below a stamp is in range, and does not count further
 below_at : (v w : List ℕ) (p : Point) (k : ℕ) → k < 32 → get_or (join_of v (below_of w p)) k 0 ≡ max (get_or v k 0) (min (get_or w k 0) (last_before p k))

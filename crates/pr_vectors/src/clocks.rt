@@ -1,9 +1,11 @@
 // The clocks of a packed vector.
 ghost use Rattle.pr_vectors.specs.Packed.{vector_in};
-ghost use Rattle.pr_vectors.specs.Vector.{IsVector, clock_of, unpacked, zero_vector};
-ghost use Rattle.std.specs.Prelude.{◌≡◌, ◌≤◌, ◌<◌, ◌↔◌, ℕ, IfOk, IsTrue};
+ghost use Rattle.pr_vectors.specs.Vector.{IsVector, clock_of, join_of, unpacked, zero_vector};
+ghost use Rattle.std.specs.Prelude.{◌≡◌, ◌≤◌, ◌<◌, ◌↔◌, ℕ, None, IfOk, IfSome, IsTrue, length};
 
 use crate::Vector;
+use crate::between::next_above;
+use crate::vector::join_clocks;
 use pr_stamps::{NODES, NoMemory};
 use std::alloc::Global;
 
@@ -29,13 +31,10 @@ impl Clocks {
         ensures range { IsVector vector.now }
     {
         let _ = vector.at(0);
-        if let Some(few) = vector.few() {
-            return Ok(Clocks::Few(few));
+        if vector.is_few() {
+            return Ok(Clocks::Few(vector.few()));
         }
-        match vector.near() {
-            Some(near) => Ok(Clocks::Near(Box::new(alloc, near)?)),
-            None => Ok(Clocks::Far(Box::new(alloc, *vector)?)),
-        }
+        of_all(alloc, vector)
     }
 
     pub(crate) fn copy(&self, alloc: Global) -> Result<Clocks, NoMemory>
@@ -82,6 +81,32 @@ impl Clocks {
         }
     }
 
+    // The greater clock of each node stays.
+    pub(crate) fn join_into(&self, others: &mut [u64; 32])
+        ensures { others.new ≡ join_of others.old (vector_in self.now) }
+    {
+        match self {
+            Clocks::Few(few) => join_few(others, few),
+            Clocks::Near(near) => join_near(others, near),
+            Clocks::Far(far) => join_clocks(others, far),
+        }
+    }
+
+    // The first node from this one on at which it is above the other.
+    pub(crate) fn next_above(&self, other: &Clocks, start: u32) -> Option<u32>
+        ensures range { IfSome result (λ n. n < 32) }
+        ensures rises { IfSome result (λ n. clock_of (vector_in other.now) n < clock_of (vector_in self.now) n) }
+        ensures from { IfSome result (λ n. start ≤ n) }
+        ensures least { IfSome result (λ n. (k : ℕ) → start ≤ k → k < n → clock_of (vector_in self.now) k ≤ clock_of (vector_in other.now) k) }
+        ensures none { result ≡ None → (k : ℕ) → start ≤ k → k < 32 → clock_of (vector_in self.now) k ≤ clock_of (vector_in other.now) k }
+    {
+        match (self, other) {
+            (Clocks::Few(few), Clocks::Few(others)) => next_above_few(few, others, start),
+            (Clocks::Near(near), Clocks::Near(others)) => next_above(&**near, &**others, start),
+            _ => next_above_by_node(self, other, start),
+        }
+    }
+
     // Whether these are the same clocks.
     pub(crate) fn is(&self, other: &Clocks) -> bool
         requires this { IsVector (vector_in self.now) }
@@ -94,6 +119,49 @@ impl Clocks {
             _ => is_same_unpacked(self, other),
         }
     }
+
+    // Whether these are the same clocks but for that of this node.
+    pub(crate) fn is_but(&self, other: &Clocks, node: u32) -> bool
+        ensures { IsTrue result ↔ ((n : ℕ) → n < 32 → (n ≡ node → ⊥) → clock_of (vector_in self.now) n ≡ clock_of (vector_in other.now) n) }
+    {
+        match (self, other) {
+            (Clocks::Few(few), Clocks::Few(others)) => is_few_but(few, others, node),
+            _ => is_but_by_node(self, other, node),
+        }
+    }
+}
+
+// The clocks of all nodes, on the heap. The room to pack them is cleared here alone.
+#[inline(never)]
+fn of_all(alloc: Global, vector: &Vector) -> Result<Clocks, NoMemory>
+    ensures { IfOk result (λ clocks. vector_in clocks ≡ vector.now) }
+{
+    match vector.near() {
+        Some(near) => Ok(Clocks::Near(Box::new(alloc, near)?)),
+        None => Ok(Clocks::Far(Box::new(alloc, *vector)?)),
+    }
+}
+
+fn join_few(others: &mut [u64; 32], few: &[u32; 8])
+    ensures { others.new ≡ join_of others.old (unpacked few.now) }
+{
+    join_short(others, few);
+}
+
+fn join_near(others: &mut [u64; 32], near: &[u32; 32])
+    ensures { others.new ≡ join_of others.old near.now }
+{
+    join_short(others, near);
+}
+
+// The greater clock of each of the first nodes stays.
+fn join_short(others: &mut [u64; 32], clocks: &[u32])
+    requires { length clocks.now ≤ 32 }
+    ensures { others.new ≡ join_of others.old clocks.now }
+{
+    for n in 0..clocks.len() {
+        others[n] = others[n].max(u64::from(clocks[n]));
+    }
 }
 
 // The same, of clocks that are packed in different ways, as hardly any are. The room for two vectors is cleared here alone.
@@ -104,6 +172,32 @@ fn is_same_unpacked(clocks: &Clocks, others: &Clocks) -> bool
     ensures { IsTrue result ↔ (vector_in clocks.now ≡ vector_in others.now) }
 {
     clocks.vector() == others.vector()
+}
+
+// The same, where they are packed in different ways.
+fn next_above_by_node(clocks: &Clocks, others: &Clocks, start: u32) -> Option<u32>
+    ensures range { IfSome result (λ n. n < 32) }
+    ensures rises { IfSome result (λ n. clock_of (vector_in others.now) n < clock_of (vector_in clocks.now) n) }
+    ensures from { IfSome result (λ n. start ≤ n) }
+    ensures least { IfSome result (λ n. (k : ℕ) → start ≤ k → k < n → clock_of (vector_in clocks.now) k ≤ clock_of (vector_in others.now) k) }
+    ensures none { result ≡ None → (k : ℕ) → start ≤ k → k < 32 → clock_of (vector_in clocks.now) k ≤ clock_of (vector_in others.now) k }
+{
+    for n in start..clocks.nodes() {
+        if others.at(n) < clocks.at(n) {
+            return Some(n);
+        }
+    }
+    None
+}
+
+fn next_above_few(few: &[u32; 8], others: &[u32; 8], start: u32) -> Option<u32>
+    ensures range { IfSome result (λ n. n < 32) }
+    ensures rises { IfSome result (λ n. clock_of (unpacked others.now) n < clock_of (unpacked few.now) n) }
+    ensures from { IfSome result (λ n. start ≤ n) }
+    ensures least { IfSome result (λ n. (k : ℕ) → start ≤ k → k < n → clock_of (unpacked few.now) k ≤ clock_of (unpacked others.now) k) }
+    ensures none { result ≡ None → (k : ℕ) → start ≤ k → k < 32 → clock_of (unpacked few.now) k ≤ clock_of (unpacked others.now) k }
+{
+    next_above(few, others, start)
 }
 
 fn is_few(few: &[u32; 8], others: &[u32; 8]) -> bool
@@ -128,4 +222,27 @@ fn nodes_of_few(few: &[u32; 8]) -> u32
     ensures behind { (n : ℕ) → result ≤ n → n < 32 → clock_of (unpacked few.now) n ≡ 0 }
 {
     few.len() as u32
+}
+
+// Whether these are the same clocks but for that of this node; those behind them are 0.
+fn is_few_but(few: &[u32; 8], others: &[u32; 8], node: u32) -> bool
+    ensures { IsTrue result ↔ ((n : ℕ) → n < 32 → (n ≡ node → ⊥) → clock_of (unpacked few.now) n ≡ clock_of (unpacked others.now) n) }
+{
+    for n in 0..8 {
+        if n != node && few[n as usize] != others[n as usize] {
+            return false;
+        }
+    }
+    true
+}
+
+fn is_but_by_node(clocks: &Clocks, others: &Clocks, node: u32) -> bool
+    ensures { IsTrue result ↔ ((n : ℕ) → n < 32 → (n ≡ node → ⊥) → clock_of (vector_in clocks.now) n ≡ clock_of (vector_in others.now) n) }
+{
+    for n in 0..NODES {
+        if n != node && clocks.at(n) != others.at(n) {
+            return false;
+        }
+    }
+    true
 }

@@ -1,8 +1,8 @@
 // A version vector at rest.
 ghost use Rattle.std.specs.Prelude.{◌≡◌, ◌≤◌, ◌<◌, ◌↔◌, ℕ, IfOk, IsTrue};
 
-use crate::Vector;
 use crate::clocks::Clocks;
+use crate::{Clocked, Vector};
 use pr_stamps::NoMemory;
 use std::alloc::Global;
 use std::marker::Model;
@@ -90,6 +90,13 @@ impl PackedVector {
         self.clocks.is(&other.clocks)
     }
 
+    /// Whether it is the same vector but for the clock of this node.
+    pub fn is_but(&self, other: &PackedVector, node: u32) -> bool
+        ensures { IsTrue result ↔ ((n : ℕ) → n < 32 → (n ≡ node → ⊥) → clock_of self.now n ≡ clock_of other.now n) }
+    {
+        self.clocks.is_but(&other.clocks, node)
+    }
+
     /// Whether each clock is at most the other's.
     pub fn le(&self, other: &Vector) -> bool
         ensures { IsTrue result ↔ Le self.now other.now }
@@ -100,5 +107,27 @@ impl PackedVector {
             }
         }
         true
+    }
+}
+
+impl Clocked for PackedVector {
+    ghost use Rattle.std.specs.Prelude.{List, ℕ};
+
+    ghost clocks = { λ v. v };
+
+    fn count(&self) -> u32 {
+        self.nodes()
+    }
+
+    fn clock(&self, node: u32) -> u64 {
+        self.at(node)
+    }
+
+    fn join_into(&self, others: &mut [u64; 32]) {
+        self.clocks.join_into(others);
+    }
+
+    fn next_above(&self, other: &PackedVector, start: u32) -> Option<u32> {
+        self.clocks.next_above(&other.clocks, start)
     }
 }

@@ -1,4 +1,4 @@
-use crate::{PackedVector, Vector, vectors_cover_points};
+use crate::{Clocked, PackedVector, Vector, only_between, vectors_cover_points};
 use pr_stamps::{MAX, Stamp};
 use std::alloc::Global;
 use std::test::Fail;
@@ -88,5 +88,48 @@ fn what_is_packed_is_the_vector(rt: HostRuntime) -> Result<(), Fail> {
     for vector in [Vector::zero(), middle, large, last] {
         assert!(rt; is_packed(rt.alloc(), &vector).unwrap_or(false));
     }
+    Ok(())
+}
+
+// Whether this is the first node at which the second vector is above the first, packed or not.
+fn is_first_above(alloc: Global, from: &Vector, to: &Vector, first: Option<u32>) -> Option<bool> {
+    let packed_from = PackedVector::of(alloc, from).ok()?;
+    let packed_to = PackedVector::of(alloc, to).ok()?;
+    Some(
+        to.next_above(from, 0) == first
+            && packed_to.next_above(&packed_from, 0) == first
+            && only_between(from, to) == only_between(&packed_from, &packed_to),
+    )
+}
+
+#[test]
+fn the_first_node_above_is_found(rt: HostRuntime) -> Result<(), Fail> {
+    let middle = vector(&[(3, 0), (2, 5)]).ok_or("stamps")?;
+    let last = vector(&[(1, 0), (2, 5), (5, 31)]).ok_or("stamps")?;
+    let large = vector(&[(3, 0), (MAX, 5)]).ok_or("stamps")?;
+    assert!(rt; is_first_above(rt.alloc(), &middle, &last, Some(31)).unwrap_or(false));
+    assert!(rt; is_first_above(rt.alloc(), &last, &middle, Some(0)).unwrap_or(false));
+    assert!(rt; is_first_above(rt.alloc(), &middle, &large, Some(5)).unwrap_or(false));
+    assert!(rt; is_first_above(rt.alloc(), &large, &middle, None).unwrap_or(false));
+    assert!(rt; is_first_above(rt.alloc(), &Vector::zero(), &middle, Some(0)).unwrap_or(false));
+    Ok(())
+}
+
+// Whether the vectors are the same but for the clock of this node.
+fn is_but(alloc: Global, a: &Vector, b: &Vector, node: u32) -> Option<bool> {
+    let packed = PackedVector::of(alloc, a).ok()?;
+    let other = PackedVector::of(alloc, b).ok()?;
+    Some(packed.is_but(&other, node))
+}
+
+#[test]
+fn vectors_are_the_same_but_for_one_node(rt: HostRuntime) -> Result<(), Fail> {
+    let middle = vector(&[(3, 0), (2, 5)]).ok_or("stamps")?;
+    let raised = vector(&[(3, 0), (4, 5)]).ok_or("stamps")?;
+    let large = vector(&[(3, 0), (MAX, 5)]).ok_or("stamps")?;
+    assert!(rt; is_but(rt.alloc(), &middle, &raised, 5).unwrap_or(false));
+    assert!(rt; is_but(rt.alloc(), &middle, &large, 5).unwrap_or(false));
+    assert!(rt; is_but(rt.alloc(), &middle, &middle, 40).unwrap_or(false));
+    assert!(rt; !is_but(rt.alloc(), &middle, &raised, 0).unwrap_or(true));
     Ok(())
 }

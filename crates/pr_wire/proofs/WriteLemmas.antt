@@ -18,39 +18,40 @@ rising v w n lt rise = let k : 32 - n ≡ suc (32 - (n + 1)) = omega arith in rw
 staying : (v w : List ℕ) (n : ℕ) → n < 32 → clock_of w n ≤ clock_of v n → above v w n (32 - n) ≡ above v w (n + 1) (32 - (n + 1))
 staying v w n lt le = let k : 32 - n ≡ suc (32 - (n + 1)) = omega arith in rw k (above_same v w n (32 - (n + 1)) le)
 
-pub count_rises : (v w : List ℕ) (n count all : ℕ) → n < 32 → clock_of v n < clock_of w n → count + length (above v w n (32 - n)) ≡ all → (count + 1) + length (above v w (n + 1) (32 - (n + 1))) ≡ all
-count_rises v w n count all lt rise so_far = omega (arith, ap length (rising v w n lt rise))
+-- nodes at which the second is not above the first have no entries
+skipping : (v w : List ℕ) (d n m : ℕ) → m ≡ n + d → m ≤ 32 → ((k : ℕ) → n ≤ k → k < m → clock_of w k ≤ clock_of v k) → above v w n (32 - n) ≡ above v w m (32 - m)
+skipping v w zero n m is le none = let same : n ≡ m = omega (arith, is) in rw same refl
+skipping v w (suc d) n m is le none =
+    staying v w n (omega (arith, is, le)) (none n (omega arith) (omega (arith, is)))
+    ∙ skipping v w d (n + 1) m (omega (arith, is)) le (λ k above below. none k (omega (arith, above)) below)
 
-pub count_stays : (v w : List ℕ) (n count all : ℕ) → n < 32 → clock_of w n ≤ clock_of v n → count + length (above v w n (32 - n)) ≡ all → count + length (above v w (n + 1) (32 - (n + 1))) ≡ all
-count_stays v w n count all lt le so_far = omega (arith, ap length (staying v w n lt le))
+-- the next entry is that of the first node at which it is above
+next_entry : (v w : List ℕ) (start n : ℕ) → start ≤ n → n < 32 → ((k : ℕ) → start ≤ k → k < n → clock_of w k ≤ clock_of v k) → clock_of v n < clock_of w n → above v w start (32 - start) ≡ record { clock = clock_of w n; node = n } ∷ above v w (n + 1) (32 - (n + 1))
+next_entry v w start n le lt none rise = skipping v w (n - start) start n (omega (arith, le)) (omega (arith, lt)) none ∙ rising v w n lt rise
 
--- a vector that counts no further has nothing above another
-none_above : (v w : List ℕ) (n k : ℕ) → n + k ≡ 32 → ((m : ℕ) → n ≤ m → m < 32 → clock_of w m ≡ 0) → above v w n k ≡ []
+no_entry : (v w : List ℕ) (start : ℕ) → start ≤ 32 → ((k : ℕ) → start ≤ k → k < 32 → clock_of w k ≤ clock_of v k) → above v w start (32 - start) ≡ []
 unfolding above
-none_above v w n zero is none = refl
-none_above v w n (suc k) is none =
-    above_same v w n k (omega (arith, none n (omega arith) (omega (arith, is))))
-    ∙ none_above v w (n + 1) k (omega (arith, is)) (λ m le lt. none m (omega (arith, le)) lt)
+no_entry v w start le none = skipping v w (32 - start) start 32 (omega (arith, le)) (omega arith) none
 
-pub count_ends : (v w : List ℕ) (n count all : ℕ) → n ≤ 32 → ((m : ℕ) → n ≤ m → m < 32 → clock_of w m ≡ 0) → count + length (above v w n (32 - n)) ≡ all → count ≡ all
-count_ends v w n count all le none so_far = omega (arith, so_far, ap length (none_above v w n (32 - n) (omega (arith, le)) none))
+pub count_rises : (v w : List ℕ) (start n count all : ℕ) → start ≤ n → n < 32 → ((k : ℕ) → start ≤ k → k < n → clock_of w k ≤ clock_of v k) → clock_of v n < clock_of w n
+    → count + length (above v w start (32 - start)) ≡ all → (count + 1) + length (above v w (n + 1) (32 - (n + 1))) ≡ all
+count_rises v w start n count all le lt none rise so_far = omega (arith, ap length (next_entry v w start n le lt none rise))
 
-pub entry_rises : (v w : List ℕ) (n : ℕ) (old new all : List ℕ) → n < 32 → clock_of v n < clock_of w n → new ≡ old ++ n ∷ eight (clock_of w n)
-    → old ++ flat_map entry_text (above v w n (32 - n)) ≡ all → new ++ flat_map entry_text (above v w (n + 1) (32 - (n + 1))) ≡ all
+pub count_ends : (v w : List ℕ) (start count all : ℕ) → start ≤ 32 → ((k : ℕ) → start ≤ k → k < 32 → clock_of w k ≤ clock_of v k) → count + length (above v w start (32 - start)) ≡ all → count ≡ all
+count_ends v w start count all le none so_far = omega (arith, so_far, ap length (no_entry v w start le none))
+
+pub entry_rises : (v w : List ℕ) (start n : ℕ) (old new all : List ℕ) → start ≤ n → n < 32 → ((k : ℕ) → start ≤ k → k < n → clock_of w k ≤ clock_of v k) → clock_of v n < clock_of w n
+    → new ≡ old ++ n ∷ eight (clock_of w n) → old ++ flat_map entry_text (above v w start (32 - start)) ≡ all → new ++ flat_map entry_text (above v w (n + 1) (32 - (n + 1))) ≡ all
 unfolding entry_text
-entry_rises v w n old new all lt rise is_new so_far =
+entry_rises v w start n old new all le lt none rise is_new so_far =
     let later = flat_map entry_text (above v w (n + 1) (32 - (n + 1))) in
     ap (λ (t : List ℕ). t ++ later) is_new
     ∙ append_assoc old (n ∷ eight (clock_of w n)) later
-    ∙ ap (λ (ps : List Point). old ++ flat_map entry_text ps) (sym (rising v w n lt rise))
+    ∙ ap (λ (ps : List Point). old ++ flat_map entry_text ps) (sym (next_entry v w start n le lt none rise))
     ∙ so_far
 
-pub entry_stays : (v w : List ℕ) (n : ℕ) (old all : List ℕ) → n < 32 → clock_of w n ≤ clock_of v n
-    → old ++ flat_map entry_text (above v w n (32 - n)) ≡ all → old ++ flat_map entry_text (above v w (n + 1) (32 - (n + 1))) ≡ all
-entry_stays v w n old all lt le so_far = ap (λ (ps : List Point). old ++ flat_map entry_text ps) (sym (staying v w n lt le)) ∙ so_far
-
-pub entries_end : (v w : List ℕ) (n : ℕ) (old all : List ℕ) → n ≤ 32 → ((m : ℕ) → n ≤ m → m < 32 → clock_of w m ≡ 0) → old ++ flat_map entry_text (above v w n (32 - n)) ≡ all → old ≡ all
-entries_end v w n old all le none so_far = sym (append-nil old) ∙ ap (λ (ps : List Point). old ++ flat_map entry_text ps) (sym (none_above v w n (32 - n) (omega (arith, le)) none)) ∙ so_far
+pub entries_end : (v w : List ℕ) (start : ℕ) (old all : List ℕ) → start ≤ 32 → ((k : ℕ) → start ≤ k → k < 32 → clock_of w k ≤ clock_of v k) → old ++ flat_map entry_text (above v w start (32 - start)) ≡ all → old ≡ all
+entries_end v w start old all le none so_far = sym (append-nil old) ∙ ap (λ (ps : List Point). old ++ flat_map entry_text ps) (sym (no_entry v w start le none)) ∙ so_far
 
 -- a number and its rest by 2^64 have the same 8 bytes
 pub eight_mod : (n : ℕ) → eight (n % 2 ^ 64) ≡ eight n

@@ -1,10 +1,9 @@
 // Vectors, and what one has above another.
-ghost use Rattle.pr_vectors.specs.Vector.{zero_vector};
 ghost use Rattle.pr_wire.specs.Spelling.{above, eight, entry_text, rise_text, vector_text};
 ghost use Rattle.std.specs.Prelude.{◌≡◌, ◌≤◌, ◌<◌, ◌+◌, ◌∷◌, ◌++◌, length, drop, flat_map, take};
 
 use crate::writing::chunk::{Chunk, put_byte, put_eight};
-use pr_vectors::{PackedVector, Vector};
+use pr_vectors::{Clocked, PackedVector, Vector};
 
 // The clock of a node.
 fn put_entry(chunk: &mut Chunk, node: u32, clock: u64)
@@ -26,37 +25,19 @@ fn set_byte(chunk: &mut Chunk, at: usize, byte: u8)
 }
 
 // The entries of the nodes at which the second vector is above the first, and how many they are.
-fn put_above(chunk: &mut Chunk, from: &PackedVector, to: &PackedVector) -> u8
+fn put_above<V: Clocked>(chunk: &mut Chunk, from: &V, to: &V) -> u8
     requires room { length chunk.old.items + 288 ≤ 704 }
-    ensures text { chunk.new.items ≡ chunk.old.items ++ flat_map entry_text (above from.now to.now 0 32) }
-    ensures count { result ≡ length (above from.now to.now 0 32) }
+    ensures text { chunk.new.items ≡ chunk.old.items ++ flat_map entry_text (above (V.clocks from.now) (V.clocks to.now) 0 32) }
+    ensures count { result ≡ length (above (V.clocks from.now) (V.clocks to.now) 0 32) }
     ensures size { length chunk.new.items ≤ length chunk.old.items + 288 }
     ensures grows { length chunk.old.items ≤ length chunk.new.items }
 {
     let mut count = 0;
-    for n in 0..to.nodes() {
-        if from.at(n) < to.at(n) {
-            put_entry(chunk, n, to.at(n));
-            count += 1;
-        }
-    }
-    count
-}
-
-// The same of a vector that is not packed, above the zero vector.
-fn put_clocks(chunk: &mut Chunk, vector: &Vector) -> u8
-    requires room { length chunk.old.items + 288 ≤ 704 }
-    ensures text { chunk.new.items ≡ chunk.old.items ++ flat_map entry_text (above zero_vector vector.now 0 32) }
-    ensures count { result ≡ length (above zero_vector vector.now 0 32) }
-    ensures size { length chunk.new.items ≤ length chunk.old.items + 288 }
-    ensures grows { length chunk.old.items ≤ length chunk.new.items }
-{
-    let mut count = 0;
-    for n in 0..vector.nodes() {
-        if 0 < vector.at(n) {
-            put_entry(chunk, n, vector.at(n));
-            count += 1;
-        }
+    let mut start = 0;
+    while let Some(node) = to.next_above(from, start) {
+        put_entry(chunk, node, to.clock(node));
+        count += 1;
+        start = node + 1;
     }
     count
 }
@@ -64,9 +45,9 @@ fn put_clocks(chunk: &mut Chunk, vector: &Vector) -> u8
 // What the second vector has above the first. How many nodes that are is set behind their entries, so that the vectors
 // are gone over once.
 #[tactic(auto, unfolding(crate::specs::Spelling::rise_text))]
-fn put_rise(chunk: &mut Chunk, from: &PackedVector, to: &PackedVector)
+fn put_rise<V: Clocked>(chunk: &mut Chunk, from: &V, to: &V)
     requires { length chunk.old.items + 289 ≤ 704 }
-    ensures text { chunk.new.items ≡ chunk.old.items ++ rise_text from.now to.now }
+    ensures text { chunk.new.items ≡ chunk.old.items ++ rise_text (V.clocks from.now) (V.clocks to.now) }
     ensures size { length chunk.new.items ≤ length chunk.old.items + 289 }
     ensures grows { length chunk.old.items ≤ length chunk.new.items }
 {
@@ -77,17 +58,14 @@ fn put_rise(chunk: &mut Chunk, from: &PackedVector, to: &PackedVector)
 }
 
 /// What the vector has above the zero vector.
-#[tactic(auto, unfolding(crate::specs::Spelling::vector_text, crate::specs::Spelling::rise_text))]
+#[tactic(auto, unfolding(crate::specs::Spelling::vector_text))]
 pub fn put_vector(chunk: &mut Chunk, vector: &Vector)
     requires { length chunk.old.items + 289 ≤ 704 }
     ensures text { chunk.new.items ≡ chunk.old.items ++ vector_text vector.now }
     ensures size { length chunk.new.items ≤ length chunk.old.items + 289 }
     ensures grows { length chunk.old.items ≤ length chunk.new.items }
 {
-    let at = chunk.len();
-    put_byte(chunk, 0);
-    let nodes = put_clocks(chunk, vector);
-    set_byte(chunk, at, nodes);
+    put_rise(chunk, &Vector::zero(), vector);
 }
 
 /// The same of a packed vector, which is not unpacked.

@@ -1,6 +1,4 @@
 use Rattle.std.proofs.Common.{inl, inr}
-use Rattle.pr_inval.specs.Messages.{IsKind}
-use Rattle.pr_inval.specs.declared.kind.Kind.TheVariants.{Precise}
 use Rattle.pr_story.proofs.Known.{known_told}
 use Rattle.pr_snap.proofs.Choice.{by_test}
 use Rattle.pr_node.proofs.Refining.{precise_tied}
@@ -8,9 +6,8 @@ use Rattle.pr_node.proofs.taking.take_precise.Goals as goal
 
 pub returns-clause-taken : goal.returns-clause-taken
 returns-clause-taken c =
-    let grammar : IsKind (Precise c.get-from.result c.get-to.result c.args.write.now) = rw c.get-from.ensures.value (rw c.get-to.ensures.value c.requires.grammar) in
-    rw (← c.get-from.ensures.value) (rw (← c.get-to.ensures.value) (λ n j time caller msg at is tied.
-    precise_tied n j _ _ time caller msg at _ _ _ _ c.empty-none.ensures is grammar tied c.in_ok-refine.ensures.ok c.in_ok-cover.ensures.ok c.settle.ensures.settled
+    λ n j time caller msg at is tied.
+    precise_tied n j _ _ time caller msg at _ _ _ _ c.empty-none.ensures is c.requires.grammar tied c.in_ok-refine.ensures.ok c.in_ok-cover.ensures.ok c.settle.ensures.settled
     (by_test c.knows-known.result
     (λ known. inr (c.mark.ensures.known known, known_told j c.args.write.now ((tied.log.knows c.args.write.now (c.knows-known.ensures.uncut known)).0 (c.knows-known.ensures.known known))))
-    (λ new. inl (c.in_ok-mark.ensures.new new)))))
+    (λ new. inl (c.in_ok-mark.ensures.new new)))

@@ -1,7 +1,7 @@
 use Rattle.std.proofs.Common.{◌≤◌, ℕ}
 use Rattle.std.specs.Prelude.{◌⊎◌, ◌↔◌}
 use Rattle.std.specs.BTreeMap.{btree_map_len}
-use Rattle.pr_gaps.specs.Ranges.{AreApart, HasClock, end_at}
+use Rattle.pr_gaps.specs.Ranges.{AreApart, IsIn, end_at}
 use Rattle.pr_gaps.proofs.ranges.Ranges.add.Given as goal
 
 -- the ranges that are left and the clocks so far are together what they were
@@ -10,7 +10,8 @@ invariant-loop-start l = record {
   apart : AreApart (end_at l.self-inside.ends.entries);
   order : l.lo ≤ l.last;
   most : l.last ≤ 4611686018427387903;
-  same : (c : ℕ) → (HasClock l.self-inside.ends.entries c ⊎ ((l.lo ≤ c) × (c ≤ l.last))) ↔ (HasClock l.initial.self-inside.ends.entries c ⊎ ((l.lo ≤ c) × (c ≤ l.hi)));
+  same : (c : ℕ) → (IsIn l.self-inside.ends.entries c ⊎ ((l.lo ≤ c) × (c ≤ l.last))) ↔ (IsIn l.initial.self-inside.ends.entries c ⊎ ((l.lo ≤ c) × (c ≤ l.hi)));
+  left : (c : ℕ) → IsIn l.self-inside.ends.entries c → IsIn l.initial.self-inside.ends.entries c;
 }
 
 abbrev pub decreases-loop-start : goal.decreases-loop-start

@@ -1,9 +1,10 @@
-use Rattle.std.proofs.Common.{◌≡◌, [], inl, inr, arith, length-set, ◌∙◌}
+use Rattle.std.proofs.Common.{◌≡◌, inl, inr, arith, length-set, ◌∙◌}
 use Rattle.std.proofs.lemmas.Bool.{cases_lt}
 use Rattle.pr_vectors.specs.Vector.{clock_of}
 use Rattle.pr_stamps.proofs.Places.{done_more, done_same, rest_more}
 use Rattle.pr_gaps.proofs.Covered.{IsNodeCovered, node_covered, node_same, rest_same}
 use Rattle.pr_gaps.proofs.row.Row.cover.Goals as goal
+use Rattle.pr_gaps.specs.Ranges.{no_clocks}
 use Rattle.pr_gaps.proofs.row.Row.cover.Goals.{then-from-to+in_ok-add, else-from-to}
 
 pub loop-n-preserved : goal.loop-n-preserved
@@ -19,14 +20,14 @@ loop-n-preserved c =
           let new = w.add.new.self in
           record {
             len = rw w.self-inside-is (length-set items n new ∙ c.loop-n.invariant.len);
-            done = rw w.self-inside-is (done_more (IsNodeCovered from to) items first [] n old new (omega (arith, c.loop-n.invariant.len)) w.index_mut-clocks.ensures.value
+            done = rw w.self-inside-is (done_more (IsNodeCovered from to) items first no_clocks n old new (omega (arith, c.loop-n.invariant.len)) w.index_mut-clocks.ensures.value
                 (node_covered from to n new old c.at-from.result c.at-to.result c.at-from.ensures.value c.at-to.ensures.value w.in_ok-add.ensures)
                 c.loop-n.invariant.done c.loop-n.invariant.rest);
-            rest = rw w.self-inside-is (rest_more items first [] n new c.loop-n.invariant.rest);
+            rest = rw w.self-inside-is (rest_more items first no_clocks n new c.loop-n.invariant.rest);
           }
       | else-from-to w ↦ record {
         len = rw w.self-inside-is c.loop-n.invariant.len;
-        done = rw w.self-inside-is (done_same (IsNodeCovered from to) items first [] n (node_same from to n (omega (arith, w.if-from-to.false, c.at-from.ensures.value, c.at-to.ensures.value))) c.loop-n.invariant.done c.loop-n.invariant.rest);
+        done = rw w.self-inside-is (done_same (IsNodeCovered from to) items first no_clocks n (node_same from to n (omega (arith, w.if-from-to.false, c.at-from.ensures.value, c.at-to.ensures.value))) c.loop-n.invariant.done c.loop-n.invariant.rest);
         rest = rw w.self-inside-is (λ k le. c.loop-n.invariant.rest k (omega (arith, le)));
       }
     ]

@@ -1,54 +1,33 @@
-use Rattle.std.proofs.Common.{◌<◌, ◌≤◌, ◌∙◌, ◌++◌, ◌∷◌, ℕ, ap, length, arith}
+use Rattle.std.proofs.Common.{◌∙◌, ◌++◌, ◌∷◌, ℕ, ap, length, refl, arith}
 use Rattle.std.specs.Prelude.{flat_map}
-use Rattle.pr_vectors.specs.Vector.{clock_of}
 use Rattle.pr_wire.specs.Spelling.{above, eight, entry_text}
-use Rattle.pr_wire.proofs.WriteLemmas.{count_ends, count_rises, count_stays, entries_end, entry_rises, entry_stays}
+use Rattle.pr_wire.proofs.WriteLemmas.{count_ends, count_rises, entries_end, entry_rises}
 use Rattle.pr_wire.proofs.writing.vectors.put_above.Goals as goal
-use Rattle.pr_wire.proofs.writing.vectors.put_above.Goals.{then-at, else-at}
 
 pub put_entry-requires-clause-room : goal.put_entry-requires-clause-room
-put_entry-requires-clause-room c = omega (arith, c.loop-n-test.true, c.loop-n.invariant.size, c.requires.room, c.nodes-n-end.ensures.most)
+put_entry-requires-clause-room g c = omega (arith, c.loop-node.invariant.size, c.requires.room, c.in-Some.ensures.from, c.in-Some.ensures.range)
 
-pub loop-n-preserved : goal.loop-n-preserved
-loop-n-preserved c =
-    let from = c.args.from.now in
-    let to = c.args.to.now in
-    let n = c.loop-n.n in
-    let i = c.loop-n.invariant in
-    let within : n < 32 = omega (arith, c.loop-n-test.true, c.nodes-n-end.ensures.most) in
-    let items = c.args.chunk.now.items ++ flat_map entry_text (above from to 0 32) in
-    let count = length (above from to 0 32) in
-    elim c.if-at.branch [
-      | then-at w ↦
-          let rise : clock_of from n < clock_of to n = omega (arith, w.if-at.true, c.at.ensures.value, c.at-in-loop-n.ensures.value) in
-          let text = w.put_entry.ensures.text ∙ ap (λ (k : ℕ). c.loop-n.chunk.items ++ n ∷ eight k) w.at-then-at.ensures.value in
-          let more = count_rises from to n c.loop-n.count count within rise i.count in
-          record {
-            all = rw w.chunk-is (entry_rises from to n c.loop-n.chunk.items w.put_entry.new.chunk.items items within rise text i.all);
-            count = rw w.count-is more;
-            few = omega (arith, i.few, w.count-is);
-            size = rw w.chunk-is (omega (arith, i.size, w.put_entry.ensures.size));
-            grows = rw w.chunk-is (omega (arith, i.grows, w.put_entry.ensures.size));
-          }
-      | else-at w ↦
-          let stay : clock_of to n ≤ clock_of from n = omega (arith, w.if-at.false, c.at.ensures.value, c.at-in-loop-n.ensures.value) in
-          record {
-            all = rw w.chunk-is (entry_stays from to n c.loop-n.chunk.items items within stay i.all);
-            count = rw w.count-is (count_stays from to n c.loop-n.count count within stay i.count);
-            few = omega (arith, i.few, w.count-is);
-            size = rw w.chunk-is (omega (arith, i.size));
-            grows = rw w.chunk-is i.grows;
-          }
-    ]
+pub loop-node-smaller : goal.loop-node-smaller
+loop-node-smaller g c = omega (arith, c.in-Some.ensures.from, c.in-Some.ensures.range)
+
+pub loop-node-preserved : goal.loop-node-preserved
+loop-node-preserved g c =
+    let from = g.V.Clocked.clocks c.args.from.now in
+    let to = g.V.Clocked.clocks c.args.to.now in
+    let found = c.in-Some.ensures in
+    let i = c.loop-node.invariant in
+    let text = c.put_entry.ensures.text ∙ ap (λ (k : ℕ). c.loop-node.chunk.items ++ c.in-Some.node ∷ eight k) c.clock.ensures.value in
+    record {
+      all = entry_rises from to c.loop-node.start c.in-Some.node c.loop-node.chunk.items c.put_entry.new.chunk.items _ found.from found.range found.least found.rises text i.all;
+      count = count_rises from to c.loop-node.start c.in-Some.node c.loop-node.count _ found.from found.range found.least found.rises i.count;
+      few = omega (arith, i.few, found.from);
+      most = omega (arith, found.range);
+      size = omega (arith, i.size, found.from, c.put_entry.ensures.size);
+      grows = omega (arith, i.grows, c.put_entry.ensures.size);
+    }
 
 pub returns-clause-text : goal.returns-clause-text
-returns-clause-text c =
-    let from = c.args.from.now in
-    let to = c.args.to.now in
-    entries_end from to c.loop-n.n c.loop-n.chunk.items (c.args.chunk.now.items ++ flat_map entry_text (above from to 0 32)) (omega (arith, c.loop-n.auto.n-end, c.nodes-n-end.ensures.most)) (λ m le lt. c.nodes-n-end.ensures.behind m (omega (arith, c.loop-n-test.false, le)) lt) c.loop-n.invariant.all
+returns-clause-text g c = entries_end (g.V.Clocked.clocks c.args.from.now) (g.V.Clocked.clocks c.args.to.now) c.loop-node.start c.loop-node.chunk.items _ c.loop-node.invariant.most (c.in_default.ensures.none refl) c.loop-node.invariant.all
 
 pub returns-clause-count : goal.returns-clause-count
-returns-clause-count c =
-    let from = c.args.from.now in
-    let to = c.args.to.now in
-    count_ends from to c.loop-n.n c.loop-n.count (length (above from to 0 32)) (omega (arith, c.loop-n.auto.n-end, c.nodes-n-end.ensures.most)) (λ m le lt. c.nodes-n-end.ensures.behind m (omega (arith, c.loop-n-test.false, le)) lt) c.loop-n.invariant.count
+returns-clause-count g c = count_ends (g.V.Clocked.clocks c.args.from.now) (g.V.Clocked.clocks c.args.to.now) c.loop-node.start c.loop-node.count _ c.loop-node.invariant.most (c.in_default.ensures.none refl) c.loop-node.invariant.count

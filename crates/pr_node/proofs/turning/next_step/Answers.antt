@@ -7,7 +7,7 @@ use Rattle.pr_node.proofs.Going.{turn_ahead, turn_body}
 use Rattle.pr_story.specs.declared.event.Event.TheVariants.{Sent}
 use Rattle.pr_story.specs.Turns.{event_of}
 use Rattle.pr_inval.specs.declared.step.Step.{Step}
-use Rattle.pr_node.proofs.turning.next_event.Goals as goal
+use Rattle.pr_node.proofs.turning.next_step.Goals as goal
 
 pub returns-then-not-le-2-clause-next : goal.returns-then-not-le-2-clause-next
 returns-then-not-le-2-clause-next c n f =
