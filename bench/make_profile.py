@@ -28,6 +28,8 @@ PROFILE = os.path.join(TOP, ".ci", "practi.profdata")
 MAGIC = 0xFF6C70726F667281
 # Of LLVM 22: 16 words, of each function 64 bytes, and then the counters and the names.
 VERSION, HEADER, FUNCTION = 10, 128, 64
+# Each workload counts as much as each other, however long it takes.
+ALIKE = 10**9
 
 
 def number(data, at):
@@ -75,11 +77,20 @@ def counts_in(path):
     return counts
 
 
+def add(total, counts, weight=1.0):
+    """Adds so many times these counts, and where one is above 0, at least 1."""
+    for function, branches in counts.items():
+        sums = total.setdefault(function, [0] * len(branches))
+        for at, count in enumerate(branches):
+            sums[at] += max(int(count * weight), 1) if count else 0
+
+
 def added(paths):
-    total = {}
+    """What the runs of one workload counted, of which the sum is ALIKE, whatever it was."""
+    once, total = {}, {}
     for path in paths:
-        for function, counts in counts_in(path).items():
-            total[function] = [a + b for a, b in zip(total.get(function, [0] * len(counts)), counts)]
+        add(once, counts_in(path))
+    add(total, once, ALIKE / sum(map(sum, once.values())))
     return total
 
 
@@ -96,16 +107,24 @@ def run(words, source, out):
         subprocess.run(words, stdin=text, stdout=told, stderr=subprocess.DEVNULL, check=False)
 
 
-def train(program, part, folder):
-    os.environ["LLVM_PROFILE_FILE"] = os.path.join(folder, "%p.profraw")
+def trained(program, part, folder):
+    """What all workloads counted."""
     script, transcript = os.path.join(folder, "script"), os.path.join(folder, "transcript")
-    for make, size, _ in measure.WORKLOADS.values():
+    total = {}
+
+    def counted(name, *runs):
+        os.environ["LLVM_PROFILE_FILE"] = os.path.join(folder, name + ".%p.profraw")
+        for words, source, out in runs:
+            run([program, *words], source, out)
+        add(total, added(glob.glob(os.path.join(folder, name + ".*.profraw"))))
+
+    for name, (make, size, _) in measure.WORKLOADS.items():
         with open(script, "w") as file:
             file.write("\n".join(make(size // part)) + "\n")
-        for word in ("sim", "run"):
-            run([program, word], script, transcript)
-            run([program, "check"], transcript, os.devnull)
-    run([program, "gen", "--seed", "1", "--size", str(40_000 // part)], os.devnull, os.devnull)
+        check = (["check"], transcript, os.devnull)
+        counted(name, (["sim"], script, transcript), check, (["run"], script, transcript), check)
+    counted("gen", (["gen", "--seed", "1", "--size", str(40_000 // part)], os.devnull, os.devnull))
+    return total
 
 
 # The program ends by `_exit`, at which the runtime writes nothing by itself.
@@ -139,8 +158,7 @@ def main():
         files = objects(os.path.abspath(args.runtime), folder)
         flags = ["-fprofile-generate", "-mllvm", "-disable-vp=true"]
         subprocess.run([os.path.join(TOP, ".ci", "compile"), program, *files, "--", *flags], check=True)
-        train(program, args.part, folder)
-        total = added(glob.glob(os.path.join(folder, "*.profraw")))
+        total = trained(program, args.part, folder)
         counts = os.path.join(folder, "counts")
         with open(counts, "w") as file:
             file.write(told(total))

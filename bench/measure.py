@@ -72,6 +72,17 @@ def checkpoints(n):
     return lines
 
 
+def rows(n):
+    """Many names, and behind each sixteenth of as many writes a checkpoint of them all."""
+    lines = pair(["stream s A B *", "attach s"]) + [f'write c a{i:06} "x"' for i in range(n)]
+    part = n // 16
+    for i in range(n):
+        lines.append(f'write c a{i * 7919 % n:06} "y"')
+        if i % part == part - 1:
+            lines += ["cut A", "checkpoint s", f"deliver s {i // part + 1}"]
+    return lines
+
+
 def attaches(n):
     """A stream that omits a long log, attached again and again before anything is delivered."""
     lines = pair(["stream s A B a*", "attach s"])
@@ -115,6 +126,7 @@ WORKLOADS = {
     "ring": (ring, 6_000, 0),
     "bodies": (bodies, 20_000, 0),
     "checkpoints": (checkpoints, 40_000, 0),
+    "rows": (rows, 4_000, 0),
     "attaches": (attaches, 12_000, 0),
     "conflicts": (conflicts, 4_000, 0),
     "phases": (phases, 32_000, 0),
