@@ -30,6 +30,17 @@ MAGIC = 0xFF6C70726F667281
 VERSION, HEADER, FUNCTION = 10, 128, 64
 # Each workload counts as much as each other, however long it takes.
 ALIKE = 10**9
+# Branches are counted, and no values; `.ci/keep` has the compiler want none either.
+FLAGS = ["-fprofile-generate", "-mllvm", "-disable-vp=true"]
+# The program ends by `_exit`, at which the runtime writes nothing by itself.
+EXIT = """\
+int __llvm_profile_write_file(void);
+_Noreturn void _Exit(int);
+_Noreturn void _exit(int status) {
+    __llvm_profile_write_file();
+    _Exit(status);
+}
+"""
 
 
 def number(data, at):
@@ -103,8 +114,8 @@ def told(total):
 
 
 def run(words, source, out):
-    with open(source, "rb") as text, open(out, "wb") as told:
-        subprocess.run(words, stdin=text, stdout=told, stderr=subprocess.DEVNULL, check=False)
+    with open(source, "rb") as text, open(out, "wb") as written:
+        subprocess.run(words, stdin=text, stdout=written, stderr=subprocess.DEVNULL, check=False)
 
 
 def trained(program, part, folder):
@@ -127,17 +138,6 @@ def trained(program, part, folder):
     return total
 
 
-# The program ends by `_exit`, at which the runtime writes nothing by itself.
-EXIT = """\
-int __llvm_profile_write_file(void);
-_Noreturn void _Exit(int);
-_Noreturn void _exit(int status) {
-    __llvm_profile_write_file();
-    _Exit(status);
-}
-"""
-
-
 def objects(runtime, folder):
     """What the program is linked with: the files of the runtime that are no Rust, and the end of a run."""
     subprocess.run(["ar", "x", runtime], cwd=folder, check=True)
@@ -156,8 +156,7 @@ def main():
     with tempfile.TemporaryDirectory() as folder:
         program = os.path.join(folder, "practi")
         files = objects(os.path.abspath(args.runtime), folder)
-        flags = ["-fprofile-generate", "-mllvm", "-disable-vp=true"]
-        subprocess.run([os.path.join(TOP, ".ci", "compile"), program, *files, "--", *flags], check=True)
+        subprocess.run([os.path.join(TOP, ".ci", "compile"), program, *files, "--", *FLAGS], check=True)
         total = trained(program, args.part, folder)
         counts = os.path.join(folder, "counts")
         with open(counts, "w") as file:
