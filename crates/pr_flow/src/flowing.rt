@@ -62,14 +62,14 @@ fn turn<A: Side, B: Side, W: Wire>(
         Step::Stale { .. } => return Ok(Some(FlowEnd::Stale)),
         Step::Sent(msg) => msg,
     };
-    match carry(alloc, &msg, wire)? {
+    let number = msg.number;
+    let carried = carry(alloc, &msg, wire);
+    // By a call, so that its kinds are not told apart here.
+    drop(msg);
+    match carried? {
         Carried::Whole(msg) => take(msg, dest, session),
         Carried::Cut(cause) => down(cause, dest, session),
-        Carried::Lied { sent, got } => Ok(Some(FlowEnd::Lied {
-            number: msg.number,
-            sent,
-            got,
-        })),
+        Carried::Lied { sent, got } => Ok(Some(FlowEnd::Lied { number, sent, got })),
     }
 }
 

@@ -83,7 +83,7 @@ fn is_noted(session: &mut Session, msg: &Msg, time: u64) -> bool
     }
     match &msg.kind {
         Kind::Precise { to, .. } => {
-            session.sent(&to.get(), time);
+            session.sent(to, time);
             true
         }
         _ => false,

@@ -1,24 +1,19 @@
 -- The clocks of the latest writes of one node.
-use Rattle.std.proofs.Common.{◌≡◌, ℕ, ◌≤◌, ◌<◌, List, [], ◌∷◌, Option, None, Some, Bool, true, false, cond, refl, sym, ◌∙◌, ap, arith, inl, inr, nat_lt, max, ◌||◌, ◌&&◌, not}
-use Rattle.std.specs.Prelude.{◌⊎◌, ◌↔◌, IsTrue, filter}
-use Rattle.std.specs.List.{IsDistinct}
-use Rattle.std.specs.Map.{keys_of}
+use Rattle.std.proofs.Common.{◌≡◌, ℕ, ◌≤◌, ◌<◌, List, [], ◌∷◌, Option, None, Some, Bool, true, false, cond, refl, sym, ◌∙◌, ap, arith, inl, inr, max, subst, ◌||◌, ◌&&◌, not}
+use Rattle.std.specs.Prelude.{◌⊎◌, ◌↔◌, IfSome, IsSome, IsTrue}
 use Rattle.std.specs.Option.{unwrap_or}
-use Rattle.std.specs.Ordering.{eq_by_cmp, is_eq, nat_cmp}
-use Rattle.std.specs.Cmp.{eq_by_cmp_equiv}
+use Rattle.std.specs.Ordering.{is_eq, nat_cmp}
 use Rattle.std.specs.Cmp.Lexicographic.{slice_cmp}
 use Rattle.std.specs.Str.{bytes_eq}
 use Rattle.std.proofs.lemmas.Bool.Decides.{nat_tests}
-use Rattle.std.proofs.lemmas.Cmp.{nat_list_cmp_total}
-use Rattle.std.proofs.lemmas.Map.Entries.{lookup-filter-values, option_filter}
 use Rattle.std.proofs.lemmas.Map.Text.{is_eq-slice_cmp}
 use Rattle.std.proofs.lemmas.Slice.Eq.{bytes_eq-Decides}
 use Rattle.pr_names.specs.Span.{Span}
 use Rattle.pr_sets.specs.Spans.{has}
 use Rattle.pr_inval.specs.declared.write_rec.WriteRec.{WriteRec}
 use Rattle.pr_log.specs.Known.{IsForgottenUpTo, IsUpTo, at_clock}
-use Rattle.pr_log.specs.Latest.{AreLatest, IsAbove, IsLeftAbove, IsRaised, IsWrittenAbove, clock_by, later_of}
-use Rattle.pr_log.proofs.Clocks.{less_or, put_here, put_in, same_some, some_none}
+use Rattle.pr_log.specs.Latest.{AreLatest, IsAbove, IsRaised, IsRaisedIn, IsWrittenAbove, clock_by, later_of}
+use Rattle.pr_log.proofs.Clocks.{is_some, less_or, put_here, put_in, same_some, some_none}
 use Rattle.pr_log.proofs.Names.{either_test}
 use Rattle.pr_log.proofs.Omitted.{named}
 use Rattle.pr_log.proofs.Places.{this_or_other}
@@ -30,6 +25,9 @@ is_key o k = is_eq (slice_cmp nat_cmp o k)
 
 pub same_name : (a b : List ℕ) → is_key a b ≡ true → a ≡ b
 same_name a b e = (bytes_eq-Decides a b).0 (sym (is_eq-slice_cmp a b) ∙ e)
+
+key : (a b : List ℕ) → a ≡ b → is_key a b ≡ true
+key a b e = is_eq-slice_cmp a b ∙ (bytes_eq-Decides a b).1 e
 
 pub not_both : {A : Type 0} (b : Bool) → b ≡ true → b ≡ false → A
 not_both b e g = cc
@@ -93,50 +91,68 @@ latest_more row new clocks now write clock are none in_ is = record {
   ];
 }
   where
-    key : (a b : List ℕ) → a ≡ b → is_key a b ≡ true
-    key a b e = is_eq-slice_cmp a b ∙ (bytes_eq-Decides a b).1 e
-
     still : (k : ℕ) (w : WriteRec) → at_clock row k ≡ Some w → at_clock new k ≡ Some w
     still k w at = put_in clock k (at_clock row k) (at_clock new k) write (in_ k) (λ e. some_none w (sym at ∙ ap (at_clock row) (sym e) ∙ none)) ∙ at
 
--- ---- clocks are forgotten
+-- the same, where the clocks are kept
+pub latest_more_in : (row new : List (ℕ × WriteRec)) (was now : Option (List (List ℕ × ℕ))) (write : WriteRec) (clock : ℕ) → IfSome was (AreLatest row) → at_clock row clock ≡ None → ((c : ℕ) → at_clock new c ≡ cond (is_eq (nat_cmp clock c)) (Some write) (at_clock row c)) → IsRaisedIn was now write.name clock → IfSome now (AreLatest new)
+latest_more_in row new None now write clock are none in_ is = subst (λ l. IfSome l (AreLatest new)) (sym is) tt
+latest_more_in row new (Some a) None write clock are none in_ is = tt
+latest_more_in row new (Some a) (Some b) write clock are none in_ is = latest_more row new a b write clock are none in_ is
 
-pub left_above : (clock : ℕ) (a b : List (List ℕ × ℕ)) → IsDistinct (eq_by_cmp (slice_cmp nat_cmp)) (keys_of a) → b ≡ filter (λ e. nat_lt clock e.1) a → IsLeftAbove clock a b
-left_above clock a b distinct is = record {
-  above = λ o k at. passed (clock_by a o) k (sym (filtered o) ∙ at);
-  kept = λ o k at past. filtered o ∙ passes (clock_by a o) k at past;
+-- ---- the writes are listed, in the order of their clocks
+
+-- just for the names of the row's writes up to a clock one is kept, that of the latest of these
+pub record AreLatestUpTo (c : ℕ) (row : List (ℕ × WriteRec)) (clocks : List (List ℕ × ℕ)) : Type 0 where
+  pub written : (o : List ℕ) (k : ℕ) → clock_by clocks o ≡ Some k → (w : WriteRec) × (at_clock row k ≡ Some w) × (w.name ≡ o)
+  pub last : (d : ℕ) (w : WriteRec) → d ≤ c → at_clock row d ≡ Some w → (k : ℕ) × (clock_by clocks w.name ≡ Some k) × (d ≤ k)
+
+pub latest_start : (writes : List (ℕ × WriteRec)) → at_clock writes 0 ≡ None → AreLatestUpTo 0 writes []
+latest_start writes none = record {
+  written = λ o k at. absurd (some_none k (sym at));
+  last = λ d w le at. let zero : 0 ≡ d = omega (arith, le) in absurd (some_none w (sym at ∙ ap (at_clock writes) (sym zero) ∙ none));
 }
-  where
-    filtered : (o : List ℕ) → clock_by b o ≡ option_filter (nat_lt clock) (clock_by a o)
-    filtered o = ap (λ l. clock_by l o) is ∙ lookup-filter-values (eq_by_cmp_equiv nat_list_cmp_total) (nat_lt clock) o a distinct
 
-    passed : (r : Option ℕ) (k : ℕ) → option_filter (nat_lt clock) r ≡ Some k → (r ≡ Some k) × (clock < k)
-    passed None k e = absurd (some_none k (sym e))
-    passed (Some j) k e = elim (less_or clock j) [
-      | inl past ↦
-          let t : nat_lt clock j ≡ true = grind (arith, nat_tests) in
-          let same : j ≡ k = same_some j k (sym (ap (λ b. cond b (Some j) None) t) ∙ e) in (ap (λ (n : ℕ). Some n) same, omega (arith, past, same))
-      | inr within ↦
-          let t : nat_lt clock j ≡ false = grind (arith, nat_tests) in
-          absurd (some_none k (sym e ∙ ap (λ b. cond b (Some j) None) t))
-    ]
-
-    passes : (r : Option ℕ) (k : ℕ) → r ≡ Some k → clock < k → option_filter (nat_lt clock) r ≡ Some k
-    passes r k e past = let t : nat_lt clock k ≡ true = grind (arith, nat_tests) in ap (option_filter (nat_lt clock)) e ∙ ap (λ b. cond b (Some k) None) t
-
-pub latest_forgot : (clock : ℕ) (row new : List (ℕ × WriteRec)) (clocks now : List (List ℕ × ℕ)) → AreLatest row clocks → IsForgottenUpTo clock row new → IsLeftAbove clock clocks now → AreLatest new now
-latest_forgot clock row new clocks now are forgot left = record {
-  written = λ o k at.
-      let was = left.above o k at in
-      let w = are.written o k was.0 in
-      (w.0, forgot.kept k was.1 ∙ w.1, w.2);
-  last = λ c w at. elim (less_or clock c) [
+pub latest_next : (row : List (ℕ × WriteRec)) (clocks now : List (List ℕ × ℕ)) (c next : ℕ) (write : WriteRec) → AreLatestUpTo c row clocks → at_clock row next ≡ Some write → ((d : ℕ) → c < d → IsSome (at_clock row d) → next ≤ d) → IsRaised clocks now write.name next → AreLatestUpTo next row now
+latest_next row clocks now c next write are here first is = record {
+  written = λ o k at. elim (either_test (is_key write.name o)) [
+    | inl equal ↦
+        let same : write.name ≡ o = same_name write.name o equal in
+        let k_is : k ≡ later_of (clock_by clocks write.name) next = same_some k _ (sym at ∙ raised_here clocks now write.name o next is equal) in
+        elim (later_is (clock_by clocks write.name) next) [
+          | inl this ↦ (write, ap (at_clock row) (k_is ∙ this) ∙ here, same)
+          | inr that ↦
+              let w = are.written write.name k (that ∙ ap (λ (n : ℕ). Some n) (sym k_is)) in
+              (w.0, w.1, w.2 ∙ same)
+        ]
+    | inr unequal ↦ are.written o k (sym (raised_other clocks now write.name o next is unequal) ∙ at)
+  ];
+  last = λ d w le at. elim (less_or c d) [
     | inl above ↦
-        let old = are.last c w (sym (forgot.kept c above) ∙ at) in
-        (old.0, left.kept w.name old.0 old.1 (omega (arith, above, old.2)), old.2)
-    | inr within ↦ absurd (some_none w (sym at ∙ forgot.gone c within))
+        let e : next ≡ d = omega (arith, le, first d above (is_some (at_clock row d) w at)) in
+        let this : write ≡ w = same_some write w (sym here ∙ ap (at_clock row) e ∙ at) in
+        (later_of (clock_by clocks write.name) next, raised_here clocks now write.name w.name next is (key write.name w.name (ap (λ (v : WriteRec). v.name) this)), omega (arith, e, later_from (clock_by clocks write.name) next))
+    | inr within ↦
+        let old = are.last d w within at in
+        elim (either_test (is_key write.name w.name)) [
+          | inl equal ↦
+              let was : clock_by clocks write.name ≡ Some old.0 = ap (clock_by clocks) (same_name write.name w.name equal) ∙ old.1 in
+              (later_of (clock_by clocks write.name) next, raised_here clocks now write.name w.name next is equal, omega (arith, old.2, later_kept (clock_by clocks write.name) old.0 next was))
+          | inr unequal ↦ (old.0, raised_other clocks now write.name w.name next is unequal ∙ old.1, old.2)
+        ]
   ];
 }
+
+pub latest_all : (row : List (ℕ × WriteRec)) (clocks : List (List ℕ × ℕ)) (c : ℕ) → AreLatestUpTo c row clocks → ((d : ℕ) → c < d → at_clock row d ≡ None) → AreLatest row clocks
+latest_all row clocks c are none = record {
+  written = are.written;
+  last = λ d w at. elim (less_or c d) [
+    | inl above ↦ absurd (some_none w (sym at ∙ none d above))
+    | inr within ↦ are.last d w within at
+  ];
+}
+
+-- ---- writes are forgotten
 
 pub up_to_forgot : (clock last : ℕ) (row new : List (ℕ × WriteRec)) → IsUpTo last row → IsForgottenUpTo clock row new → IsUpTo last new
 up_to_forgot clock last row new up_to forgot c past = elim (less_or clock c) [

@@ -20,6 +20,14 @@ at_row_has rows n c x by_stamp is = subst (λ p. write_at rows p ≡ Some x) (sy
 pub has_at : (rows : List (List (ℕ × WriteRec))) (n : ℕ) (x : WriteRec) → Has rows x → x.stamp.node ≡ n → at_clock (row_of rows n) x.stamp.clock ≡ Some x
 has_at rows n x has here = subst (λ k. at_clock (row_of rows k) x.stamp.clock ≡ Some x) here has
 
+-- no clock of a write is 0
+pub none_at_zero : (rows : List (List (ℕ × WriteRec))) (n : ℕ) → IsByStamp rows → at_clock (row_of rows n) 0 ≡ None
+none_at_zero rows n by_stamp = by (at_clock (row_of rows n) 0) refl
+  where
+    by : (r : Option WriteRec) → at_clock (row_of rows n) 0 ≡ r → r ≡ None
+    by None e = refl
+    by (Some x) e = absurd (omega (arith, (at_row rows n 0 x by_stamp e).1.from_one))
+
 -- the first of a row is the first of its node
 pub first_is : (rows : List (List (ℕ × WriteRec))) (n c : ℕ) (row : List (ℕ × WriteRec)) (r : Option WriteRec) → IsByStamp rows → row ≡ row_of rows n → IsFirstIn row c r → IsFirstAbove rows n c r
 first_is rows n c row None by_stamp is first = λ x has here. elim (less_or c x.stamp.clock) [

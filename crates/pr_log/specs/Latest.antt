@@ -1,5 +1,5 @@
 -- The clocks of the latest writes of one node, one for each name.
-use Rattle.std.specs.Prelude.{◌≡◌, ◌≤◌, ◌<◌, ℕ, List, Option, None, Some, cond, max}
+use Rattle.std.specs.Prelude.{◌≡◌, ◌≤◌, ◌<◌, ℕ, List, Option, None, Some, IfSome, cond, max}
 use Rattle.std.specs.Map.{lookup}
 use Rattle.std.specs.Ordering.{is_eq, nat_cmp}
 use Rattle.std.specs.Cmp.Lexicographic.{slice_cmp}
@@ -28,10 +28,10 @@ later_of (Some k) c = max k c
 abbrev pub IsRaised : List (List ℕ × ℕ) → List (List ℕ × ℕ) → List ℕ → ℕ → Type 0
 IsRaised a b name c = (o : List ℕ) → clock_by b o ≡ cond (is_eq (slice_cmp nat_cmp name o)) (Some (later_of (clock_by a name) c)) (clock_by a o)
 
--- the names whose clock is not above this one are forgotten
-pub record IsLeftAbove (c : ℕ) (a b : List (List ℕ × ℕ)) : Type 0 where
-  pub above : (o : List ℕ) (k : ℕ) → clock_by b o ≡ Some k → (clock_by a o ≡ Some k) × (c < k)
-  pub kept : (o : List ℕ) (k : ℕ) → clock_by a o ≡ Some k → c < k → clock_by b o ≡ Some k
+-- the same, where the clocks are kept
+abbrev pub IsRaisedIn : Option (List (List ℕ × ℕ)) → Option (List (List ℕ × ℕ)) → List ℕ → ℕ → Type 0
+IsRaisedIn None b name c = b ≡ None
+IsRaisedIn (Some a) b name c = IfSome b (λ now. IsRaised a now name c)
 
 -- the row has a write to the name above the clock
 abbrev pub IsWrittenAbove : List (ℕ × WriteRec) → ℕ → List ℕ → Type 0

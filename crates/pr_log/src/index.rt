@@ -1,7 +1,7 @@
 //! The known writes of a log.
 ghost use Rattle.pr_log.specs.Sets.{is_gathered};
-ghost use Rattle.pr_log.specs.Known.{Has, IsAdded, IsByStamp, IsFirstAbove, IsForgotten, IsForgottenUpTo, IsOmittedBetween, IsOmittedOf, IsWaiting, IsWithin, uncovered};
-ghost use Rattle.pr_log.specs.Latest.{WroteAbove};
+ghost use Rattle.pr_log.specs.Known.{Has, IsAdded, IsByStamp, IsFirstAbove, IsForgotten, IsForgottenUpTo, IsOmittedBetween, IsOmittedOf, IsWaiting, IsWithin, row_of, uncovered};
+ghost use Rattle.pr_log.specs.Latest.{AreLatest, WroteAbove};
 ghost use Rattle.pr_log.specs.Many.{IsSetWithin};
 ghost use Rattle.pr_names.specs.Name.{IsName};
 ghost use Rattle.pr_sets.specs.Spans.{IsSetOf, has};
@@ -10,6 +10,7 @@ ghost use Rattle.pr_vectors.specs.Vector.{clock_of};
 ghost use Rattle.std.specs.Prelude.{◌≡◌, ◌≤◌, ◌<◌, ◌+◌, ◌⊎◌, ◌↔◌, ℕ, List, [], length, slice_index_or, IfNone, IfOk, IfSome, IsTrue, OnErr, OnOk, Some, false, option_copied};
 
 use crate::collector::Collector;
+use crate::latest::Latest;
 use crate::writes::Writes;
 use crate::{Near, Steps};
 use pr_inval::WriteRec;
@@ -26,6 +27,8 @@ pub struct Index {
     rows: Vec<Writes>,
     // Only the first so many nodes have known writes.
     nodes: u32,
+    // Whether the names of each node's writes are listed.
+    listed: bool,
 }
 
 impl Model for Index {
@@ -47,11 +50,15 @@ impl Index {
         ensures few { IfOk result (λ i. (pos : List ℕ) → uncovered i pos ≡ 0) }
     {
         let rows = rows(alloc)?;
-        Ok(Index { rows, nodes: 0 })
+        Ok(Index {
+            rows,
+            nodes: 0,
+            listed: false,
+        })
     }
 
-    // Keeps the write, if no known write has its stamp. It takes time logarithmic in the names of its node, and in its
-    // writes where one has a later clock.
+    // Keeps the write, if no known write has its stamp. It takes time logarithmic in its node's writes where one has a
+    // later clock, and in the names of its node where names are listed.
     pub(crate) fn add(&mut self, write: &WriteRec) -> Result<(), NoMemory>
         ensures ok { OnOk result (IsAdded self.old self.new write.now) }
         ensures few { OnOk result ((pos : List ℕ) → uncovered self.new pos ≤ uncovered self.old pos + 1) }
@@ -62,12 +69,27 @@ impl Index {
         self.rows[node as usize].add(write)
     }
 
-    // Drops the writes that the cut covers, in time linear in the known writes and their names.
+    // Drops the writes that the cut covers, and lists no names, in time linear in the known writes.
     pub(crate) fn forget(&mut self, cut: &Vector)
         ensures forgotten { IsForgotten self.old self.new cut.now }
         ensures few { (pos : List ℕ) → uncovered self.new pos ≤ uncovered self.old pos }
     {
+        self.listed = false;
         forget(&mut self.rows, self.nodes, cut);
+    }
+
+    // Lists the names of each node's writes, by which those that a stream leaves out are found; if they are listed, in
+    // constant time, and else in time linear in the known writes, for each logarithmic in the names. They stay listed
+    // until writes are forgotten.
+    pub(crate) fn list_names(&mut self, alloc: Global) -> Result<(), NoMemory>
+        ensures { self.new ≡ self.old }
+    {
+        if self.listed {
+            return Ok(());
+        }
+        list_names(alloc, &mut self.rows)?;
+        self.listed = true;
+        Ok(())
     }
 
     /// How many nodes there are up to the last that has known writes, or had some, in constant time.
@@ -131,23 +153,22 @@ impl Index {
         ensures { IfOk result (λ set. IsSetWithin most set (IsOmittedBetween self.now from.now to.now sub.now)) }
     {
         match self.late_alone(from, to) {
-            Some(node) => self.omitted_alone(alloc, node, from, sub, most),
+            Some((node, latest)) => self.omitted_alone(alloc, node, latest, from, sub, most),
             None => self.omitted(alloc, from, to, sub),
         }
     }
 
-    // The one node with points between the vectors, where no known write of it is past the end, and it has more writes
-    // between than names.
-    fn late_alone(&self, from: &Vector, to: &Vector) -> Option<u32>
-        ensures range { IfSome result (λ n. n < 32) }
-        ensures alone { IfSome result (λ n. (k : ℕ) → k < 32 → clock_of from.now k < clock_of to.now k → k ≡ n) }
-        ensures up_to { IfSome result (λ n. (x : WriteRec) → Has self.now x → x.stamp.node ≡ n → x.stamp.clock ≤ clock_of to.now n) }
+    // The one node with points between the vectors, with its latest writes, where no known write of it is past the end,
+    // its names are listed, and it has more writes between than names.
+    fn late_alone(&self, from: &Vector, to: &Vector) -> Option<(u32, &Latest)>
+        ensures range { IfSome result (λ r. r.0 < 32) }
+        ensures alone { IfSome result (λ r. (k : ℕ) → k < 32 → clock_of from.now k < clock_of to.now k → k ≡ r.0) }
+        ensures up_to { IfSome result (λ r. (x : WriteRec) → Has self.now x → x.stamp.node ≡ r.0 → x.stamp.clock ≤ clock_of to.now r.0) }
+        ensures latest { IfSome result (λ r. AreLatest (row_of self.now r.0) r.1.now) }
     {
         let node = only_between(from, to)?;
-        if self.is_up_to(node, to.at(node)) && self.is_much_above(node, from.at(node)) {
-            return Some(node);
-        }
-        None
+        let latest = self.latest_above(node, from.at(node), to.at(node))?;
+        Some((node, latest))
     }
 
     // The names of the node's writes past the vector that are none of these, or where they are many the first of them.
@@ -155,19 +176,36 @@ impl Index {
         &self,
         alloc: Global,
         writer: u32,
+        latest: &Latest,
         from: &Vector,
         sub: &NameSet,
         most: usize,
     ) -> Result<NameSet, NoMemory>
-        requires { writer < 32 }
+        requires writer { writer < 32 }
+        requires latest { AreLatest (row_of self.now writer) latest.now }
         ensures set { IfOk result (λ set. IsSetWithin most set (λ o. (has sub.now o ≡ false) × WroteAbove self.now writer (clock_of from.now writer) o)) }
         ensures by_stamp { IsByStamp self.now }
     {
-        self.rows[writer as usize].first_outside(alloc, from.at(writer), sub, most)
+        self.by_stamp();
+        latest.first_above(alloc, from.at(writer), sub, most)
     }
 
-    // Adds the names of a node's writes above one clock, up to another, that are none of these: where none is past the
-    // end, and there are more of them than names, by the latest write to each name.
+    // By name the latest writes of a node, where no known write of it is past the end, its names are listed, and more of
+    // its writes are above the clock than it has names.
+    fn latest_above(&self, writer: u32, from: u64, to: u64) -> Option<&Latest>
+        requires { writer < 32 }
+        ensures up_to { IfSome (option_copied result) (λ l. (x : WriteRec) → Has self.now x → x.stamp.node ≡ writer → x.stamp.clock ≤ to) }
+        ensures latest { IfSome (option_copied result) (AreLatest (row_of self.now writer)) }
+    {
+        if self.is_up_to(writer, to) {
+            self.rows[writer as usize].latest_above(from)
+        } else {
+            None
+        }
+    }
+
+    // Adds the names of a node's writes above one clock, up to another, that are none of these: where it can be, by the
+    // latest write to each name.
     fn omit(
         &self,
         writer: u32,
@@ -182,10 +220,10 @@ impl Index {
         if to <= from {
             return Ok(());
         }
-        if self.is_up_to(writer, to) && self.is_much_above(writer, from) {
-            return self.omit_above(writer, from, sub, names);
+        match self.latest_above(writer, from, to) {
+            Some(latest) => self.omit_above(writer, latest, from, sub, names),
+            None => self.omit_each(writer, from, to, sub, names),
         }
-        self.omit_each(writer, from, to, sub, names)
     }
 
     // The same, by each write.
@@ -236,21 +274,17 @@ impl Index {
     fn omit_above(
         &self,
         writer: u32,
+        latest: &Latest,
         clock: u64,
         sub: &NameSet,
         names: &mut Collector,
     ) -> Result<(), NoMemory>
-        requires { writer < 32 }
+        requires writer { writer < 32 }
+        requires latest { AreLatest (row_of self.now writer) latest.now }
         ensures { OnOk result ((o : List ℕ) → IsName o → IsTrue (is_gathered names.new o) ↔ (IsTrue (is_gathered names.old o) ⊎ ((has sub.now o ≡ false) × WroteAbove self.now writer clock o))) }
     {
-        self.rows[writer as usize].omit_above(clock, sub, names)
-    }
-
-    // Whether the node has more writes above the clock than names, of which the late ones all count.
-    fn is_much_above(&self, writer: u32, clock: u64) -> bool
-        requires { writer < 32 }
-    {
-        self.rows[writer as usize].is_much_above(clock)
+        self.by_stamp();
+        latest.gather(clock, sub, names)
     }
 
     // The node's first known write above one clock, if it is not above another, looked for at this place first.
@@ -323,6 +357,18 @@ fn rows(alloc: Global) -> Result<Vec<Writes>, NoMemory>
         rows.push(Writes::new(alloc))?;
     }
     Ok(rows)
+}
+
+fn list_names(alloc: Global, rows: &mut Vec<Writes>) -> Result<(), NoMemory>
+    requires len { length rows.old.items ≡ 32 }
+    requires by_stamp { IsByStamp rows.old.items }
+    ensures { rows.new.items ≡ rows.old.items }
+{
+    for n in 0..NODES {
+        let row = &mut rows[n as usize];
+        row.list_names(alloc)?;
+    }
+    Ok(())
 }
 
 // Of the first so many nodes, behind which none wrote.

@@ -1,5 +1,5 @@
 // The clocks of the latest writes of one node.
-ghost use Rattle.pr_log.specs.Latest.{IsAbove, IsLeftAbove, IsRaised};
+ghost use Rattle.pr_log.specs.Latest.{IsAbove, IsRaised};
 ghost use Rattle.pr_log.specs.Many.{IsSetWithin};
 ghost use Rattle.pr_log.specs.Ranges.{range_end};
 ghost use Rattle.pr_log.specs.Sets.{is_gathered};
@@ -48,13 +48,6 @@ impl Latest {
         let last = self.clocks.entry(*name)?.or_insert(clock);
         *last = (*last).max(clock);
         Ok(())
-    }
-
-    // Forgets the names with no write above the clock, in time linear in the names.
-    pub fn forget(&mut self, clock: u64)
-        ensures { IsLeftAbove clock self.old self.new }
-    {
-        self.clocks.retain(|_, last| *last > clock);
     }
 
     // Whether one of the names may have a write above the clock. Each interval and each name that is looked at is taken

@@ -66,7 +66,8 @@ impl Log {
         })
     }
 
-    /// Knows of a write of its own, whose point the vector then covers, in time logarithmic in the names that it wrote to.
+    /// Knows of a write of its own, whose point the vector then covers, in amortised constant time, or where names are
+    /// listed in time logarithmic in the names that it wrote to.
     pub fn add_own(&mut self, write: &WriteRec) -> Result<(), NoMemory>
         requires own { write.now.stamp.node ≡ self.old.node }
         requires above { clock_of self.old.vector write.now.stamp.node < write.now.stamp.clock }
@@ -140,6 +141,15 @@ impl Log {
         self.cut.join_in(&self.vector);
         self.dark.forget(self.node, &self.cut);
         self.known.forget(&self.cut);
+    }
+
+    /// Lists the names of each node's known writes, by which the calls of streams that leave names out find those. If they
+    /// are listed, it takes constant time, and else time linear in the known writes, for each logarithmic in the names.
+    /// They stay listed until the next cut. Where they are not, these calls look at each write.
+    pub fn list_names(&mut self) -> Result<(), NoMemory>
+        ensures { self.new ≡ self.old }
+    {
+        self.known.list_names(self.alloc)
     }
 
     /// The points of which the node was told, in constant time.

@@ -207,6 +207,10 @@ fn names_outside_the_subscription_are_omitted(rt: HostRuntime) -> Result<(), Fai
     }
     let names = omitted(rt.alloc(), &log, b"b")?;
     assert_eq!(rt; names.as_slice(), b"a,c".as_slice());
+    log.list_names().ok().ok_or("no memory")?;
+    tell_write(rt.alloc(), &mut log, b"d", 5)?;
+    let listed = omitted(rt.alloc(), &log, b"b")?;
+    assert_eq!(rt; listed.as_slice(), b"a,c,d".as_slice());
     Ok(())
 }
 

@@ -4,7 +4,7 @@ ghost use Rattle.pr_marks.specs.Row.{Rises};
 ghost use Rattle.pr_marks.specs.Table.{IsForgotten, IsMarked, IsRaised, is_after, marks_of, names_of, newest_of, row_of};
 ghost use Rattle.pr_names.specs.Order.{NamesRise};
 ghost use Rattle.pr_vectors.specs.Vector.{IsVector, zero_vector};
-ghost use Rattle.std.specs.Prelude.{◌≡◌, [], true, false, None, Some, IfOk, IsErr, OnErr, OnOk, find};
+ghost use Rattle.std.specs.Prelude.{◌≡◌, [], true, false, MatchOption, None, Some, IfOk, IfSome, IsErr, OnErr, OnOk, find};
 ghost use Rattle.std.specs.BTreeMap.{keys};
 
 use crate::row::Row;
@@ -173,14 +173,15 @@ impl Marks {
         }
     }
 
-    /// The marks of the name in the order of their stamps, in time logarithmic in the names.
-    pub fn marks(&self, name: &Name) -> &[Mark]
-        ensures value { result.now ≡ marks_of self.now name.now }
-        ensures rise { Rises result.now }
+    /// The newest known stamp of the name, and its marks in the order of their stamps, in time logarithmic in the names;
+    /// None exactly where none is known.
+    pub fn known(&self, name: &Name) -> Option<(Newest, &[Mark])>
+        ensures value { MatchOption result (newest_of self.now name.now ≡ None) (λ known. (newest_of self.now name.now ≡ Some known.0) × (known.1.now ≡ marks_of self.now name.now)) }
+        ensures rise { IfSome result (λ known. Rises known.1.now) }
     {
         match self.rows.get(name) {
-            Some(row) => row.marks(),
-            None => &[],
+            Some(row) => Some((row.newest(), row.marks())),
+            None => None,
         }
     }
 

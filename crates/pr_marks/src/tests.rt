@@ -18,6 +18,14 @@ fn are_marks(marks: &[Mark], stamps: &[(u64, u32)]) -> bool {
     marks.len() == stamps.len() && all.all(|(m, s)| m.stamp.clock() == s.0 && m.stamp.node() == s.1)
 }
 
+// Whether these are the stamps of the name's marks.
+fn has_marks(table: &Marks, name: &Name, stamps: &[(u64, u32)]) -> bool {
+    match table.known(name) {
+        Some((_, marks)) => are_marks(marks, stamps),
+        None => stamps.is_empty(),
+    }
+}
+
 #[test]
 fn marks_and_their_conflicts(rt: HostRuntime) -> Result<(), Fail> {
     let a = Name::read(b"a").ok().ok_or("a name")?;
@@ -29,7 +37,7 @@ fn marks_and_their_conflicts(rt: HostRuntime) -> Result<(), Fail> {
     table.add(&a, &first, false).ok().ok_or("no memory")?;
     table.add(&a, &tied, false).ok().ok_or("no memory")?;
     table.add(&a, &first, true).ok().ok_or("no memory")?;
-    assert!(rt; are_marks(table.marks(&a), &[(1, 0), (1, 1), (2, 1)]));
+    assert!(rt; has_marks(&table, &a, &[(1, 0), (1, 1), (2, 1)]));
     let pairs = table.pairs(&a).ok().ok_or("no memory")?;
     let pairs = pairs.as_slice();
     assert_eq!(rt; pairs.len(), 2);
@@ -37,9 +45,9 @@ fn marks_and_their_conflicts(rt: HostRuntime) -> Result<(), Fail> {
     let mut floor = Vector::zero();
     floor.raise(&tied.stamp);
     table.forget(&floor);
-    assert!(rt; are_marks(table.marks(&a), &[(1, 0), (2, 1)]) && table.floor() == floor);
+    assert!(rt; has_marks(&table, &a, &[(1, 0), (2, 1)]) && table.floor() == floor);
     table.add(&a, &tied, false).ok().ok_or("no memory")?;
-    assert!(rt; are_marks(table.marks(&a), &[(1, 0), (2, 1)]));
+    assert!(rt; has_marks(&table, &a, &[(1, 0), (2, 1)]));
     Ok(())
 }
 
@@ -62,7 +70,7 @@ fn newest_stamps(rt: HostRuntime) -> Result<(), Fail> {
         (table.newest(&a), table.newest(&b)),
         (newest((2, 1), false), newest((2, 1), true))
     );
-    assert_eq!(rt; table.marks(&b).len(), 0);
+    assert!(rt; has_marks(&table, &b, &[]));
     assert_eq!(rt;
         (
             table.next_known(&None),
@@ -136,13 +144,21 @@ fn are_all(pairs: &[(Stamp, Stamp)], marks: &[Mark]) -> bool {
     left.next().is_none()
 }
 
+// The same of the name's marks.
+fn are_all_of(table: &Marks, name: &Name, pairs: &[(Stamp, Stamp)]) -> bool {
+    match table.known(name) {
+        Some((_, marks)) => are_all(pairs, marks),
+        None => pairs.is_empty(),
+    }
+}
+
 // Whether all conflicts are found after each of these writes is added.
 fn find_all(table: &mut Marks, name: &Name, order: &[usize]) -> Option<bool> {
     for at in order {
         let (stamp, prev) = *WRITES.get(*at)?;
         table.add(name, &mark(stamp, prev)?, false).ok()?;
         let pairs = table.pairs(name).ok()?;
-        if !are_all(pairs.as_slice(), table.marks(name)) {
+        if !are_all_of(table, name, pairs.as_slice()) {
             return Some(false);
         }
     }

@@ -31,6 +31,13 @@ pub settled_by : (name o : List ℕ) (stamp t : Point) {x : Option (List ℕ)} �
 settled_by name o stamp t {x = x} none =
     settled_cond (bytes_eq name o) (is_before t stamp) x (λ same before. none ((bytes_eq-Decides name o).0 same) (is_before_tells t stamp before))
 
+-- nor where all was left as it was
+pub kept_by : (a b : Held) (name o : List ℕ) (stamp t : Point) → IsSettled a b name stamp ⊎ (b ≡ a) → (name ≡ o → Before t stamp → ⊥) → held b o t ≡ held a o t
+kept_by a b name o stamp t left none = elim left [
+  | inl settled ↦ settled o t ∙ settled_by name o stamp t none
+  | inr same ↦ ap (λ (h : Held). held h o t) same
+]
+
 not_before_tells : (s t : Point) → is_before s t ≡ false → Before s t → ⊥
 not_before_tells s t e before = grind (arith, nat_tests)
 

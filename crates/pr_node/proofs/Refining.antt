@@ -24,7 +24,7 @@ use Rattle.pr_node.specs.Ties.{IsTied, IsMarksOf}
 use Rattle.pr_inval.specs.Messages.{IsKind}
 use Rattle.pr_node.proofs.Logs.{refined_log, some_same}
 use Rattle.pr_node.proofs.Points.{covered_gaps}
-use Rattle.pr_node.proofs.Held.{body_step, settled_by}
+use Rattle.pr_node.proofs.Held.{body_step, kept_by}
 use Rattle.pr_node.proofs.Tables.{heard_again, write_marked, same_marks}
 use Rattle.pr_node.proofs.Spelled.{prev_range}
 
@@ -47,16 +47,16 @@ no_newest msg at k o is of rows = λ s t. elim t [
 
 pub precise_tied : (n : ℕ) (j : List Entry) (a b : Stores) (time caller : ℕ) (msg : Msg) (at from to : List ℕ) (none : List Span) (write : WriteRec)
     → none ≡ [] → msg.kind ≡ Precise from to write → IsKind (Precise from to write) → IsTied n j a
-    → IsRefined a.log b.log from to none (Some write) → IsCovered a.gaps b.gaps from to none → IsSettled a.bodies b.bodies write.name write.stamp → IsMarked a.marks b.marks write.name (mark_of write) write.gone ⊎ ((b.marks ≡ a.marks) × HeardOf j write)
+    → IsRefined a.log b.log from to none (Some write) → IsCovered a.gaps b.gaps from to none → IsSettled a.bodies b.bodies write.name write.stamp ⊎ (b.bodies ≡ a.bodies) → IsMarked a.marks b.marks write.name (mark_of write) write.gone ⊎ ((b.marks ≡ a.marks) × HeardOf j write)
     → IsTied n (record { time = time; caller = caller; event = Accepted msg at } ∷ j) b
-precise_tied n j a b time caller msg at from to none write empty is grammar f refined covered settled marked =
+precise_tied n j a b time caller msg at from to none write empty is grammar f refined covered left marked =
     let k : Kind = Precise from to write in
     let e : Entry = record { time = time; caller = caller; event = Accepted msg at } in
     record {
       log = refined_log n j a.log b.log time caller msg at k (Some write) is refl (λ x. some_same write x) f.log (subst (λ (t : List Span). IsRefined a.log b.log from to t (Some write)) empty refined);
       gaps = covered_gaps n j a.gaps b.gaps time caller msg at k is f.gaps (subst (λ (t : List Span). IsCovered a.gaps b.gaps from to t) empty covered);
       bodies = body_step e j a.bodies b.bodies (λ o t latest.
-          settled o t ∙ settled_by write.name o write.stamp t (λ same before. latest write.stamp (inl (inl (write, subst (λ (q : Kind). IsOf q write) (sym is) refl, same, refl))) before)
+          kept_by a.bodies b.bodies write.name o write.stamp t left (λ same before. latest write.stamp (inl (inl (write, subst (λ (q : Kind). IsOf q write) (sym is) refl, same, refl))) before)
           ∙ sym (same_body msg at k o t (held a.bodies o t) (held a.bodies o t) is refl)) f.bodies;
       marks =
           let only = λ (o : List ℕ) (r : Option Newest) (is_only : IsOnly write o r). accepted_newest msg at from to write o r is is_only in

@@ -7,6 +7,7 @@ use Rattle.pr_inval.specs.declared.kind.Kind.TheVariants.{Precise, Imprecise, Ch
 use Rattle.pr_inval.specs.declared.msg.Msg.{Msg}
 use Rattle.pr_inval.specs.declared.row.Row.{Row}
 use Rattle.pr_inval.specs.Points.{from_of}
+use Rattle.pr_log.specs.Log.{Knows}
 use Rattle.pr_bodies.specs.Bodies.{Held, held, IsPut, IsSettled}
 use Rattle.pr_marks.specs.Table.{Table, newest_of}
 use Rattle.pr_stamps.specs.declared.newest.Newest.{Newest}
@@ -47,9 +48,9 @@ AreSettled a b rows =
     (o : List ℕ) (t : Point)
     → ((held b o t ≡ held a o t) × ¬ IsOutdated rows o t) ⊎ ((held b o t ≡ None) × IsOutdated rows o t)
 
--- what a message of this kind leaves of the bodies, where the table tells the writes known before it
-abbrev pub LeavesBodies : Held → Held → Table → Kind → Type 0
-LeavesBodies a b m (Precise from to write) = IsSettled a b write.name write.stamp
-LeavesBodies a b m (Imprecise from to target) = b ≡ a
-LeavesBodies a b m (Checkpoint to target floor rows) = AreSettled a b rows
-LeavesBodies a b m (Body name stamp bytes) = IsBodyTaken a b m name stamp bytes
+-- what a message of this kind leaves of the bodies; a write that was known before leaves them as they are
+abbrev pub LeavesBodies : Stores → Stores → Kind → Type 0
+LeavesBodies a b (Precise from to write) = IsSettled a.bodies b.bodies write.name write.stamp ⊎ ((b.bodies ≡ a.bodies) × Knows a.log write)
+LeavesBodies a b (Imprecise from to target) = b.bodies ≡ a.bodies
+LeavesBodies a b (Checkpoint to target floor rows) = AreSettled a.bodies b.bodies rows
+LeavesBodies a b (Body name stamp bytes) = IsBodyTaken a.bodies b.bodies a.marks name stamp bytes

@@ -40,7 +40,7 @@ pub fn take(alloc: Global, stores: &mut Stores, kind: &Kind) -> Result<(), NoMem
     requires log { Le (from_of kind.now) stores.old.log.vector }
     requires gaps { stores.old.gaps.vector ≡ stores.old.log.vector }
     ensures taken { OnOk result (HasTaken stores.old stores.new kind.now) }
-    ensures bodies { OnOk result (LeavesBodies stores.old.bodies stores.new.bodies stores.old.marks kind.now) }
+    ensures bodies { OnOk result (LeavesBodies stores.old stores.new kind.now) }
     ensures sets { stores.new.gaps.sets ≡ stores.old.gaps.sets }
 {
     match kind {
@@ -56,7 +56,6 @@ pub fn take(alloc: Global, stores: &mut Stores, kind: &Kind) -> Result<(), NoMem
     }
 }
 
-// The name's older bodies are of no more use, so they are dropped.
 fn take_precise(
     alloc: Global,
     stores: &mut Stores,
@@ -68,14 +67,14 @@ fn take_precise(
     requires log { Le from.now stores.old.log.vector }
     requires gaps { stores.old.gaps.vector ≡ stores.old.log.vector }
     ensures taken { OnOk result (HasTaken stores.old stores.new (Precise from.now to.now write.now)) }
-    ensures bodies { OnOk result (IsSettled stores.old.bodies stores.new.bodies write.now.name write.now.stamp) }
+    ensures bodies { OnOk result (LeavesBodies stores.old stores.new (Precise from.now to.now write.now)) }
     ensures sets { stores.new.gaps.sets ≡ stores.old.gaps.sets }
 {
     let none = NameSet::empty(alloc);
     let known = stores.log.knows(write);
     refine(&mut stores.log, from, to, &none, write, known)?;
     stores.gaps.cover(from, to, &none)?;
-    stores.bodies.settle(&write.name, &write.stamp);
+    settle(&mut stores.bodies, write, known);
     mark(&mut stores.marks, write, known)?;
     Ok(())
 }
@@ -100,6 +99,17 @@ fn refine(
     }
     log.refine(from, to, target, Some(write))?;
     Ok(())
+}
+
+// The name's older bodies are of no more use, so they are dropped. A write that was known before has had that done, and
+// since then no such body was held.
+fn settle(bodies: &mut Bodies, write: &WriteRec, known: bool)
+    ensures known { known ≡ true → bodies.new ≡ bodies.old }
+    ensures new { known ≡ false → IsSettled bodies.old bodies.new write.now.name write.now.stamp }
+{
+    if !known {
+        bodies.settle(&write.name, &write.stamp);
+    }
 }
 
 // The mark of a write that was known before stands already.

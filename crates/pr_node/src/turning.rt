@@ -16,10 +16,30 @@ use crate::ahead::ahead;
 use crate::waiting_bodies::next_body;
 use crate::{Scan, Stores, Turned};
 use pr_inval::{Kind, Msg, Session, Step};
+use pr_names::{Bound, Name};
+use pr_sets::NameSet;
 use pr_stamps::NoMemory;
 use pr_story::Journal;
 use pr_vectors::PackedVector;
 use std::alloc::Global;
+
+// Where the stream leaves names out, the log lists those of its writes, by which it finds them.
+pub fn list_names(stores: &mut Stores, session: &Session) -> Result<(), NoMemory>
+    ensures { stores.new ≡ stores.old }
+{
+    if leaves_out(session.sub()) {
+        stores.log.list_names()?;
+    }
+    Ok(())
+}
+
+// Whether these are not all names.
+fn leaves_out(names: &NameSet) -> bool {
+    match names.parts() {
+        [part] => part.lo() != Name::least() || part.hi() != Bound::End,
+        _ => true,
+    }
+}
 
 // The turn of a stream with this session, at its source, where its node has done this. The session has room to note it.
 // A step goes from call to call, and not its event, which is larger.

@@ -88,9 +88,9 @@ fn rows(alloc: Global, marks: &Marks, target: &NameSet) -> Result<Seq<Row>, NoMe
 fn add_row(alloc: Global, marks: &Marks, name: &Name, rows: &mut Seq<Row>) -> Result<(), NoMemory>
     ensures { OnOk result (rows.new ≡ rows.old ++ row_with marks.now name.now (newest_of marks.now name.now)) }
 {
-    match marks.newest(name) {
-        Some(newest) => {
-            let marks = Seq::copied(alloc, marks.marks(name))?;
+    match marks.known(name) {
+        Some((newest, marks)) => {
+            let marks = Seq::copied(alloc, marks)?;
             rows.push(Row {
                 name: *name,
                 newest: newest.stamp,

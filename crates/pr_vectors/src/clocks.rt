@@ -5,15 +5,17 @@ ghost use Rattle.std.specs.Prelude.{◌≡◌, ◌≤◌, ◌<◌, ◌↔◌, �
 
 use crate::Vector;
 use crate::between::next_above;
+use crate::close::Close;
 use crate::vector::join_clocks;
 use pr_stamps::{NODES, NoMemory};
 use std::alloc::Global;
 
-// In place those of the first eight nodes, where no other node counts and each is below 2^32, as mostly. On the heap
-// those of all nodes: as far as each is below 2^32, and else whole.
+// In place those of the first eight nodes, where no other node counts and each is below 2^32, as mostly, or those of all
+// nodes that are close together. On the heap those of all nodes: as far as each is below 2^32, and else whole.
 #[derive(Drop)]
 pub(crate) enum Clocks {
     Few([u32; 8]),
+    Close(Close),
     Near(Box<[u32; 32]>),
     Far(Box<Vector>),
 }
@@ -42,6 +44,7 @@ impl Clocks {
     {
         match self {
             Clocks::Few(few) => Ok(Clocks::Few(*few)),
+            Clocks::Close(close) => Ok(Clocks::Close(*close)),
             Clocks::Near(near) => Ok(Clocks::Near(Box::new(alloc, **near)?)),
             Clocks::Far(far) => Ok(Clocks::Far(Box::new(alloc, **far)?)),
         }
@@ -53,6 +56,7 @@ impl Clocks {
     {
         match self {
             Clocks::Few(few) => Vector::of_few(few),
+            Clocks::Close(close) => Vector::of_near(&close.near()),
             Clocks::Near(near) => Vector::of_near(near),
             Clocks::Far(far) => **far,
         }
@@ -65,7 +69,7 @@ impl Clocks {
     {
         match self {
             Clocks::Few(few) => nodes_of_few(few),
-            Clocks::Near(_) | Clocks::Far(_) => NODES,
+            Clocks::Close(_) | Clocks::Near(_) | Clocks::Far(_) => NODES,
         }
     }
 
@@ -76,6 +80,7 @@ impl Clocks {
     {
         match self {
             Clocks::Few(few) => at_few(few, node),
+            Clocks::Close(close) => close.at(node),
             Clocks::Near(near) => u64::from(near[node as usize]),
             Clocks::Far(far) => far.at(node),
         }
@@ -87,6 +92,7 @@ impl Clocks {
     {
         match self {
             Clocks::Few(few) => join_few(others, few),
+            Clocks::Close(close) => join_near(others, &close.near()),
             Clocks::Near(near) => join_near(others, near),
             Clocks::Far(far) => join_clocks(others, far),
         }
@@ -102,6 +108,11 @@ impl Clocks {
     {
         match (self, other) {
             (Clocks::Few(few), Clocks::Few(others)) => next_above_few(few, others, start),
+            (Clocks::Close(close), Clocks::Close(others)) => next_above(
+                &close.near(),
+                &others.near(),
+                start,
+            ),
             (Clocks::Near(near), Clocks::Near(others)) => next_above(&**near, &**others, start),
             _ => next_above_by_node(self, other, start),
         }
@@ -115,6 +126,7 @@ impl Clocks {
     {
         match (self, other) {
             (Clocks::Few(few), Clocks::Few(others)) => is_few(few, others),
+            (Clocks::Close(close), Clocks::Close(others)) => close.near() == others.near(),
             (Clocks::Near(near), Clocks::Near(others)) => **near == **others,
             _ => is_same_unpacked(self, other),
         }
@@ -126,16 +138,25 @@ impl Clocks {
     {
         match (self, other) {
             (Clocks::Few(few), Clocks::Few(others)) => is_few_but(few, others, node),
+            (Clocks::Close(close), Clocks::Close(others)) => is_near_but(
+                &close.near(),
+                &others.near(),
+                node,
+            ),
+            (Clocks::Near(near), Clocks::Near(others)) => is_near_but(near, others, node),
             _ => is_but_by_node(self, other, node),
         }
     }
 }
 
-// The clocks of all nodes, on the heap. The room to pack them is cleared here alone.
+// The clocks of all nodes, in place or on the heap. The room to pack them is cleared here alone.
 #[inline(never)]
 fn of_all(alloc: Global, vector: &Vector) -> Result<Clocks, NoMemory>
     ensures { IfOk result (λ clocks. vector_in clocks ≡ vector.now) }
 {
+    if let Some(close) = Close::of(vector) {
+        return Ok(Clocks::Close(close));
+    }
     match vector.near() {
         Some(near) => Ok(Clocks::Near(Box::new(alloc, near)?)),
         None => Ok(Clocks::Far(Box::new(alloc, *vector)?)),
@@ -230,6 +251,17 @@ fn is_few_but(few: &[u32; 8], others: &[u32; 8], node: u32) -> bool
 {
     for n in 0..8 {
         if n != node && few[n as usize] != others[n as usize] {
+            return false;
+        }
+    }
+    true
+}
+
+fn is_near_but(near: &[u32; 32], others: &[u32; 32], node: u32) -> bool
+    ensures { IsTrue result ↔ ((n : ℕ) → n < 32 → (n ≡ node → ⊥) → clock_of near.now n ≡ clock_of others.now n) }
+{
+    for n in 0..NODES {
+        if n != node && near[n as usize] != others[n as usize] {
             return false;
         }
     }

@@ -85,7 +85,9 @@ fn what_is_packed_is_the_vector(rt: HostRuntime) -> Result<(), Fail> {
     let middle = vector(&[(3, 0), (2, 5)]).ok_or("stamps")?;
     let large = vector(&[(MAX, 7)]).ok_or("a stamp")?;
     let last = vector(&[(1, 31)]).ok_or("a stamp")?;
-    for vector in [Vector::zero(), middle, large, last] {
+    let close = vector(&[(746, 3), (1000, 20), (999, 31)]).ok_or("stamps")?;
+    let apart = vector(&[(745, 3), (1000, 20), (999, 31)]).ok_or("stamps")?;
+    for vector in [Vector::zero(), middle, large, last, close, apart] {
         assert!(rt; is_packed(rt.alloc(), &vector).unwrap_or(false));
     }
     Ok(())
@@ -112,6 +114,11 @@ fn the_first_node_above_is_found(rt: HostRuntime) -> Result<(), Fail> {
     assert!(rt; is_first_above(rt.alloc(), &middle, &large, Some(5)).unwrap_or(false));
     assert!(rt; is_first_above(rt.alloc(), &large, &middle, None).unwrap_or(false));
     assert!(rt; is_first_above(rt.alloc(), &Vector::zero(), &middle, Some(0)).unwrap_or(false));
+    let close = vector(&[(900, 3), (1000, 20), (999, 31)]).ok_or("stamps")?;
+    let closer = vector(&[(900, 3), (1000, 20), (1001, 31)]).ok_or("stamps")?;
+    assert!(rt; is_first_above(rt.alloc(), &close, &closer, Some(31)).unwrap_or(false));
+    assert!(rt; is_first_above(rt.alloc(), &closer, &close, None).unwrap_or(false));
+    assert!(rt; is_first_above(rt.alloc(), &last, &close, Some(3)).unwrap_or(false));
     Ok(())
 }
 
@@ -131,5 +138,12 @@ fn vectors_are_the_same_but_for_one_node(rt: HostRuntime) -> Result<(), Fail> {
     assert!(rt; is_but(rt.alloc(), &middle, &large, 5).unwrap_or(false));
     assert!(rt; is_but(rt.alloc(), &middle, &middle, 40).unwrap_or(false));
     assert!(rt; !is_but(rt.alloc(), &middle, &raised, 0).unwrap_or(true));
+    let close = vector(&[(900, 3), (1000, 20)]).ok_or("stamps")?;
+    let closer = vector(&[(900, 3), (1001, 20)]).ok_or("stamps")?;
+    let apart = vector(&[(1, 3), (1000, 20)]).ok_or("stamps")?;
+    assert!(rt; is_but(rt.alloc(), &close, &closer, 20).unwrap_or(false));
+    assert!(rt; !is_but(rt.alloc(), &close, &closer, 3).unwrap_or(true));
+    assert!(rt; is_but(rt.alloc(), &close, &apart, 3).unwrap_or(false));
+    assert!(rt; !is_but(rt.alloc(), &apart, &close, 20).unwrap_or(true));
     Ok(())
 }

@@ -14,7 +14,7 @@ ghost use Rattle.pr_story.specs.Sessions.{HasGoneOn};
 use crate::answering::{answer, copy};
 use crate::rebuilding::{cut, fresh};
 use crate::starting::{checkpoint, start};
-use crate::turning::{copy_of, is_idle, kind_of, next_turn, note, note_idle};
+use crate::turning::{copy_of, is_idle, kind_of, list_names, next_turn, note, note_idle};
 use crate::{Node, Scan, Turned};
 use pr_inval::{Msg, NodeFault, Session, Step};
 use pr_stamps::NoMemory;
@@ -59,6 +59,7 @@ impl Node {
     {
         let time = self.diary.begin(session.time())?;
         let stream = session.stream();
+        list_names(&mut self.stores, session)?;
         let journal = self.diary.journal();
         let step = next_turn(self.alloc, &self.stores, journal, session, scan, time)?;
         let answer = match copy_of(self.alloc, &step) {
@@ -97,6 +98,7 @@ impl Node {
             self.diary.finish(time, caller, Event::Idle { stream });
             return Ok(Turned::Idle);
         }
+        list_names(&mut self.stores, session)?;
         let journal = self.diary.journal();
         let step = next_turn(self.alloc, &self.stores, journal, session, scan, time)?;
         let turned = kind_of(&step);

@@ -56,9 +56,9 @@ impl Stream {
         }
         match kind {
             Kind::Body { name, stamp, .. } => self.session.sent_body(name, stamp, time),
-            Kind::Precise { to, .. } => self.session.sent(&to.get(), time),
-            Kind::Imprecise { to, .. } => self.session.sent(&to.get(), time),
-            Kind::Checkpoint { to, .. } => self.session.sent(&to.get(), time),
+            Kind::Precise { to, .. } => self.session.sent(to, time),
+            Kind::Imprecise { to, .. } => self.session.sent(to, time),
+            Kind::Checkpoint { to, .. } => self.session.sent(to, time),
         }
         Some(())
     }

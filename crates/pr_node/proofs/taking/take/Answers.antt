@@ -24,5 +24,5 @@ returns-in-Body-clause-taken c =
 
 pub returns-in-Body-clause-bodies : goal.returns-in-Body-clause-bodies
 returns-in-Body-clause-bodies c =
-    subst (λ (k : Kind). OnOk c.take_body.result (LeavesBodies c.args.stores.now.bodies c.take_body.new.stores.bodies c.args.stores.now.marks k)) (sym c.in-Body.is)
-    (subst (λ (bytes : List ℕ). OnOk c.take_body.result (LeavesBodies c.args.stores.now.bodies c.take_body.new.stores.bodies c.args.stores.now.marks (Body c.in-Body.name c.in-Body.stamp bytes))) c.as_slice-in-Body.ensures c.take_body.ensures.bodies)
+    subst (λ (k : Kind). OnOk c.take_body.result (LeavesBodies c.args.stores.now c.take_body.new.stores k)) (sym c.in-Body.is)
+    (subst (λ (bytes : List ℕ). OnOk c.take_body.result (LeavesBodies c.args.stores.now c.take_body.new.stores (Body c.in-Body.name c.in-Body.stamp bytes))) c.as_slice-in-Body.ensures c.take_body.ensures.bodies)

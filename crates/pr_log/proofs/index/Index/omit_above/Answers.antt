@@ -1,15 +1,12 @@
-use Rattle.std.proofs.Common.{arith, []}
+use Rattle.std.proofs.Common.{refl}
 use Rattle.std.proofs.lemmas.Result.{on_ok_weaker}
+use Rattle.pr_log.specs.Known.{row_of}
 use Rattle.pr_log.specs.Sets.{is_gathered}
-use Rattle.pr_log.proofs.Past.{node_omits_above}
-use Rattle.pr_log.proofs.Places.{at_place}
+use Rattle.pr_log.proofs.Past.{node_omits_above, omits_above}
 use Rattle.pr_log.proofs.index.Index.omit_above.Goals as goal
 
 pub returns : goal.returns
-returns c =
-    rw (← c.self.view_is) (
-    on_ok_weaker c.omit_above.result (λ each o name.
-    node_omits_above c.self.inside.rows.items c.args.writer c.args.clock c.index.result.now o c.args.sub.now (is_gathered c.args.names.now o) (is_gathered c.omit_above.new.names o) c.self.invariant.1
-    (at_place c.self.inside.rows.items c.args.writer c.index.result.now [] c.index.ensures (omega (arith, c.self.invariant.0, c.requires)))
-    (each o name))
-    c.omit_above.ensures)
+returns c = on_ok_weaker c.gather.result (λ each o name.
+    node_omits_above c.args.self.now c.args.writer c.args.clock (row_of c.args.self.now c.args.writer) o c.args.sub.now (is_gathered c.args.names.now o) (is_gathered c.gather.new.names o) c.by_stamp.ensures refl
+    (omits_above (row_of c.args.self.now c.args.writer) c.args.latest.now c.args.clock o c.args.sub.now (is_gathered c.args.names.now o) (is_gathered c.gather.new.names o) c.requires.latest (each o name)))
+    c.gather.ensures

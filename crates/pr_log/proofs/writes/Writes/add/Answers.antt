@@ -1,6 +1,6 @@
 use Rattle.std.proofs.Common.{rules, ◌≡◌, None, ◌∙◌}
 use Rattle.pr_log.specs.Known.{at_clock}
-use Rattle.pr_log.proofs.LastClocks.{latest_more}
+use Rattle.pr_log.proofs.LastClocks.{latest_more_in}
 use Rattle.pr_log.proofs.Rows.{none_by_test, put_up_to}
 use Rattle.pr_log.proofs.writes.Writes.add.Goals as goal
 
@@ -11,7 +11,7 @@ pub invariant_of-self-in-Ok : goal.invariant_of-self-in-Ok
 invariant_of-self-in-Ok c =
     let none : at_clock c.self.inside.by_clock c.clock-clock.result ≡ None = none_by_test _ c.has.result (rw c.self.view_is c.has.ensures) c.if-has.false in (
       put_up_to c.self.inside.by_clock c.insert.new.self c.args.write.now c.clock-clock.result c.self.inside.last _ (search rules) (search rules) c.in_ok-insert.ensures.ok c.self.invariant.0,
-      latest_more c.self.inside.by_clock c.insert.new.self c.self.inside.latest c.put.new.self c.args.write.now c.clock-clock.result c.self.invariant.1 none c.in_ok-insert.ensures.ok c.in-Ok.ensures.ok,
+      latest_more_in c.self.inside.by_clock c.insert.new.self c.self.inside.latest c.put_latest.new.latest c.args.write.now c.clock-clock.result c.self.invariant.1 none c.in_ok-insert.ensures.ok c.in-Ok.ensures.ok,
     )
 
 pub invariant_of-self-in-Err : goal.invariant_of-self-in-Err

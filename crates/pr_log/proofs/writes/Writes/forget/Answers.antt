@@ -1,8 +1,5 @@
-use Rattle.pr_log.proofs.LastClocks.{latest_forgot, up_to_forgot}
+use Rattle.pr_log.proofs.LastClocks.{up_to_forgot}
 use Rattle.pr_log.proofs.writes.Writes.forget.Goals as goal
 
 pub invariant_of-self : goal.invariant_of-self
-invariant_of-self c = (
-  up_to_forgot c.args.clock c.self.inside.last c.self.inside.by_clock c.forget-2.new.self c.self.invariant.0 c.forget-2.ensures,
-  latest_forgot c.args.clock c.self.inside.by_clock c.forget-2.new.self c.self.inside.latest c.forget.new.self c.self.invariant.1 c.forget-2.ensures c.forget.ensures,
-)
+invariant_of-self c = (up_to_forgot c.args.clock c.self.inside.last c.self.inside.by_clock c.forget.new.self c.self.invariant.0 c.forget.ensures, tt)

@@ -12,6 +12,7 @@ use Rattle.pr_node.proofs.Quiet.{quiet_tied}
 use Rattle.pr_node.proofs.Scanning.{scan_turned}
 use Rattle.pr_story.specs.Turns.{event_of}
 use Rattle.pr_node.proofs.Stepping.{has_gone_on, step_in_range, turn_heard, turn_is, tied_so, turn_of, turn_quiet, turn_ready}
+use Rattle.pr_node.specs.declared.stores.Stores.{Stores}
 use Rattle.pr_node.proofs.node.Node.turn_from.Goals as goal
 
 pub invariant_of-self-2 : goal.invariant_of-self-2
@@ -20,9 +21,9 @@ invariant_of-self-2 c =
     let a : SessionMeaning = means c.args.session.now in
     let event = event_of c.stream-stream.result c.in_ok-step.step in
     let next = subst (λ (k : ℕ). IsNextTurn n (reverse c.self.inside.diary.entries.items) a c.in_ok-time.time (event_of k c.in_ok-step.step)) (sym c.stream-stream.ensures)
-    (tied_so n _ _ c.self.inside.stores (λ j. IsNextTurn n j a c.in_ok-time.time (event_of a.stream c.in_ok-step.step)) (ap (λ (x : Kept Entry). x.items) c.journal-journal.ensures ∙ c.in_ok-time.ensures.items) (c.in_ok-step.ensures.next n) (c.self.invariant.1 c.in_ok-time.ensures.worked)) in
+    (tied_so n _ _ c.list_names.new.stores (λ j. IsNextTurn n j a c.in_ok-time.time (event_of a.stream c.in_ok-step.step)) (ap (λ (x : Kept Entry). x.items) c.journal-journal.ensures ∙ c.in_ok-time.ensures.items) (c.in_ok-step.ensures.next n) (rw c.list_names.ensures (c.self.invariant.1 c.in_ok-time.ensures.worked))) in
     stands n _ _ _ _ _ _ c.self.invariant.0 c.in_ok-time.ensures.items c.turned.ensures.items
-    (quiet_tied n _ _ _ (turn_quiet n _ a c.in_ok-time.time event next) (c.self.invariant.1 c.in_ok-time.ensures.worked))
+    (quiet_tied n _ _ _ (turn_quiet n _ a c.in_ok-time.time event next) (rw c.list_names.ensures (c.self.invariant.1 c.in_ok-time.ensures.worked)))
 
 pub returns-clause-ok : goal.returns-clause-ok
 returns-clause-ok c needs =
@@ -30,8 +31,8 @@ returns-clause-ok c needs =
     let a : SessionMeaning = means c.args.session.now in
     let event = event_of c.stream-stream.result c.in_ok-step.step in
     let next = subst (λ (k : ℕ). IsNextTurn n (reverse c.self.inside.diary.entries.items) a c.in_ok-time.time (event_of k c.in_ok-step.step)) (sym c.stream-stream.ensures)
-    (tied_so n _ _ c.self.inside.stores (λ j. IsNextTurn n j a c.in_ok-time.time (event_of a.stream c.in_ok-step.step)) (ap (λ (x : Kept Entry). x.items) c.journal-journal.ensures ∙ c.in_ok-time.ensures.items) (c.in_ok-step.ensures.next n) (c.self.invariant.1 c.in_ok-time.ensures.worked)) in
-    rw (← c.self.view_is) (adds _ _ _ _ _ _ _ _ _ (λ x. a.standing) needs _ c.time.result _ c.in_ok-time.ensures.items c.turned.ensures.items refl c.turned.ensures.spent
+    (tied_so n _ _ c.list_names.new.stores (λ j. IsNextTurn n j a c.in_ok-time.time (event_of a.stream c.in_ok-step.step)) (ap (λ (x : Kept Entry). x.items) c.journal-journal.ensures ∙ c.in_ok-time.ensures.items) (c.in_ok-step.ensures.next n) (rw c.list_names.ensures (c.self.invariant.1 c.in_ok-time.ensures.worked))) in
+    rw (← c.self.view_is) (adds _ _ _ _ _ _ _ _ _ (λ x. a.standing) needs _ c.time.result _ c.in_ok-time.ensures.items c.turned.ensures.items (ap (λ (s : Stores). s.gaps.sets) c.list_names.ensures) c.turned.ensures.spent
     (turn_ready needs n _ _ a _ _ event (step_in_range c.stream-stream.result c.in_ok-step.step (search rules) c.in_ok-step.ensures.range) next)
     c.ranges.caller.fits refl (c.time.ensures.value ∙ turn_heard n _ a c.in_ok-time.time event next) c.in_ok-time.ensures.time (
       subst (λ (x : Step). IsStep a.stream x (record { time = c.in_ok-time.time; caller = c.args.caller; event = event })) (sym c.in-Ok.ensures) (turn_is n _ a _ _ c.stream-stream.result c.in_ok-step.step c.stream-stream.ensures next),
@@ -41,17 +42,17 @@ returns-clause-ok c needs =
 pub returns-clause-grammar : goal.returns-clause-grammar
 returns-clause-grammar c =
     subst (λ (x : Step). IsStepSpelled x) (sym c.in-Ok.ensures)
-    (tied_so c.self.inside.id _ _ c.self.inside.stores (λ j. IsStepSpelled c.in_ok-step.step) (ap (λ (x : Kept Entry). x.items) c.journal-journal.ensures ∙ c.in_ok-time.ensures.items) (c.in_ok-step.ensures.spelled c.self.inside.id) (c.self.invariant.1 c.in_ok-time.ensures.worked))
+    (tied_so c.self.inside.id _ _ c.list_names.new.stores (λ j. IsStepSpelled c.in_ok-step.step) (ap (λ (x : Kept Entry). x.items) c.journal-journal.ensures ∙ c.in_ok-time.ensures.items) (c.in_ok-step.ensures.spelled c.self.inside.id) (rw c.list_names.ensures (c.self.invariant.1 c.in_ok-time.ensures.worked)))
 
 pub returns-in-Err-clause-scan : goal.returns-in-Err-clause-scan
 returns-in-Err-clause-scan c =
     subst (λ (es : List Entry). IsScanOf c.next_turn.new.scan (means c.next_turn.new.session).standing (reverse es)) (sym c.in_ok-time.ensures.items)
-    (tied_so c.self.inside.id _ _ c.self.inside.stores (λ j. IsScanOf c.next_turn.new.scan (means c.next_turn.new.session).standing j) (ap (λ (x : Kept Entry). x.items) c.journal-journal.ensures ∙ c.in_ok-time.ensures.items) (c.next_turn.ensures.scan c.self.inside.id) (c.self.invariant.1 c.in_ok-time.ensures.worked))
+    (tied_so c.self.inside.id _ _ c.list_names.new.stores (λ j. IsScanOf c.next_turn.new.scan (means c.next_turn.new.session).standing j) (ap (λ (x : Kept Entry). x.items) c.journal-journal.ensures ∙ c.in_ok-time.ensures.items) (c.next_turn.ensures.scan c.self.inside.id) (rw c.list_names.ensures (c.self.invariant.1 c.in_ok-time.ensures.worked)))
 
 pub returns-in_err-step-clause-scan : goal.returns-in_err-step-clause-scan
 returns-in_err-step-clause-scan c =
     subst (λ (es : List Entry). IsScanOf c.next_turn.new.scan (means c.next_turn.new.session).standing (reverse es)) (sym c.in_ok-time.ensures.items)
-    (tied_so c.self.inside.id _ _ c.self.inside.stores (λ j. IsScanOf c.next_turn.new.scan (means c.next_turn.new.session).standing j) (ap (λ (x : Kept Entry). x.items) c.journal-journal.ensures ∙ c.in_ok-time.ensures.items) (c.next_turn.ensures.scan c.self.inside.id) (c.self.invariant.1 c.in_ok-time.ensures.worked))
+    (tied_so c.self.inside.id _ _ c.list_names.new.stores (λ j. IsScanOf c.next_turn.new.scan (means c.next_turn.new.session).standing j) (ap (λ (x : Kept Entry). x.items) c.journal-journal.ensures ∙ c.in_ok-time.ensures.items) (c.next_turn.ensures.scan c.self.inside.id) (rw c.list_names.ensures (c.self.invariant.1 c.in_ok-time.ensures.worked)))
 
 pub returns-clause-scan : goal.returns-clause-scan
 returns-clause-scan c =
@@ -59,8 +60,8 @@ returns-clause-scan c =
     let a : SessionMeaning = means c.args.session.now in
     let event = event_of c.stream-stream.result c.in_ok-step.step in
     let next = subst (λ (k : ℕ). IsNextTurn n (reverse c.self.inside.diary.entries.items) a c.in_ok-time.time (event_of k c.in_ok-step.step)) (sym c.stream-stream.ensures)
-    (tied_so n _ _ c.self.inside.stores (λ j. IsNextTurn n j a c.in_ok-time.time (event_of a.stream c.in_ok-step.step)) (ap (λ (x : Kept Entry). x.items) c.journal-journal.ensures ∙ c.in_ok-time.ensures.items) (c.in_ok-step.ensures.next n) (c.self.invariant.1 c.in_ok-time.ensures.worked)) in
+    (tied_so n _ _ c.list_names.new.stores (λ j. IsNextTurn n j a c.in_ok-time.time (event_of a.stream c.in_ok-step.step)) (ap (λ (x : Kept Entry). x.items) c.journal-journal.ensures ∙ c.in_ok-time.ensures.items) (c.in_ok-step.ensures.next n) (rw c.list_names.ensures (c.self.invariant.1 c.in_ok-time.ensures.worked))) in
     scan_turned c.next_turn.new.scan (means c.next_turn.new.session) (means c.note.new.session) _ _ c.begin.new.self.entries.items _ (c.note.ensures c.args.caller c.stream-stream.result (c.stream-stream.ensures ∙ sym c.in_ok-step.ensures.same.stream))
     (subst (λ k. IsTurnOf k event) (sym c.in_ok-step.ensures.same.stream) (turn_of n _ a c.in_ok-time.time event next)) c.turned.ensures.items
     (subst (λ (es : List Entry). IsScanOf c.next_turn.new.scan (means c.next_turn.new.session).standing (reverse es)) (sym c.in_ok-time.ensures.items)
-    (tied_so c.self.inside.id _ _ c.self.inside.stores (λ j. IsScanOf c.next_turn.new.scan (means c.next_turn.new.session).standing j) (ap (λ (x : Kept Entry). x.items) c.journal-journal.ensures ∙ c.in_ok-time.ensures.items) (c.next_turn.ensures.scan c.self.inside.id) (c.self.invariant.1 c.in_ok-time.ensures.worked)))
+    (tied_so c.self.inside.id _ _ c.list_names.new.stores (λ j. IsScanOf c.next_turn.new.scan (means c.next_turn.new.session).standing j) (ap (λ (x : Kept Entry). x.items) c.journal-journal.ensures ∙ c.in_ok-time.ensures.items) (c.next_turn.ensures.scan c.self.inside.id) (rw c.list_names.ensures (c.self.invariant.1 c.in_ok-time.ensures.worked))))
