@@ -359,6 +359,7 @@ fn rows(alloc: Global) -> Result<Vec<Writes>, NoMemory>
     Ok(rows)
 }
 
+// The newest write of each name in each node's row. What holds of the rows does not change where memory is wanting.
 fn list_names(alloc: Global, rows: &mut Vec<Writes>) -> Result<(), NoMemory>
     requires len { length rows.old.items ≡ 32 }
     requires by_stamp { IsByStamp rows.old.items }

@@ -5,17 +5,16 @@ ghost use Rattle.std.specs.Prelude.{◌≡◌, ◌≤◌, ◌<◌, ◌↔◌, �
 
 use crate::Vector;
 use crate::between::next_above;
-use crate::close::Close;
 use crate::vector::join_clocks;
 use pr_stamps::{NODES, NoMemory};
 use std::alloc::Global;
 
-// In place those of the first eight nodes, where no other node counts and each is below 2^32, as mostly, or those of all
-// nodes that are close together. On the heap those of all nodes: as far as each is below 2^32, and else whole.
+// In place those of the first eight nodes, where no other node counts and each is below 2^16, as mostly. On the heap
+// those of all nodes: where each is below 2^16, where each is below 2^32, and else whole.
 #[derive(Drop)]
 pub(crate) enum Clocks {
-    Few([u32; 8]),
-    Close(Close),
+    Few([u16; 8]),
+    Short(Box<[u16; 32]>),
     Near(Box<[u32; 32]>),
     Far(Box<Vector>),
 }
@@ -44,7 +43,7 @@ impl Clocks {
     {
         match self {
             Clocks::Few(few) => Ok(Clocks::Few(*few)),
-            Clocks::Close(close) => Ok(Clocks::Close(*close)),
+            Clocks::Short(short) => Ok(Clocks::Short(Box::new(alloc, **short)?)),
             Clocks::Near(near) => Ok(Clocks::Near(Box::new(alloc, **near)?)),
             Clocks::Far(far) => Ok(Clocks::Far(Box::new(alloc, **far)?)),
         }
@@ -56,7 +55,7 @@ impl Clocks {
     {
         match self {
             Clocks::Few(few) => Vector::of_few(few),
-            Clocks::Close(close) => Vector::of_near(&close.near()),
+            Clocks::Short(short) => Vector::of_near(&wide(short)),
             Clocks::Near(near) => Vector::of_near(near),
             Clocks::Far(far) => **far,
         }
@@ -69,7 +68,7 @@ impl Clocks {
     {
         match self {
             Clocks::Few(few) => nodes_of_few(few),
-            Clocks::Close(_) | Clocks::Near(_) | Clocks::Far(_) => NODES,
+            Clocks::Short(_) | Clocks::Near(_) | Clocks::Far(_) => NODES,
         }
     }
 
@@ -80,7 +79,7 @@ impl Clocks {
     {
         match self {
             Clocks::Few(few) => at_few(few, node),
-            Clocks::Close(close) => close.at(node),
+            Clocks::Short(short) => u64::from(short[node as usize]),
             Clocks::Near(near) => u64::from(near[node as usize]),
             Clocks::Far(far) => far.at(node),
         }
@@ -92,7 +91,7 @@ impl Clocks {
     {
         match self {
             Clocks::Few(few) => join_few(others, few),
-            Clocks::Close(close) => join_near(others, &close.near()),
+            Clocks::Short(short) => join_near(others, &wide(short)),
             Clocks::Near(near) => join_near(others, near),
             Clocks::Far(far) => join_clocks(others, far),
         }
@@ -108,9 +107,9 @@ impl Clocks {
     {
         match (self, other) {
             (Clocks::Few(few), Clocks::Few(others)) => next_above_few(few, others, start),
-            (Clocks::Close(close), Clocks::Close(others)) => next_above(
-                &close.near(),
-                &others.near(),
+            (Clocks::Short(short), Clocks::Short(others)) => next_above(
+                &wide(short),
+                &wide(others),
                 start,
             ),
             (Clocks::Near(near), Clocks::Near(others)) => next_above(&**near, &**others, start),
@@ -126,7 +125,7 @@ impl Clocks {
     {
         match (self, other) {
             (Clocks::Few(few), Clocks::Few(others)) => is_few(few, others),
-            (Clocks::Close(close), Clocks::Close(others)) => close.near() == others.near(),
+            (Clocks::Short(short), Clocks::Short(others)) => **short == **others,
             (Clocks::Near(near), Clocks::Near(others)) => **near == **others,
             _ => is_same_unpacked(self, other),
         }
@@ -138,9 +137,9 @@ impl Clocks {
     {
         match (self, other) {
             (Clocks::Few(few), Clocks::Few(others)) => is_few_but(few, others, node),
-            (Clocks::Close(close), Clocks::Close(others)) => is_near_but(
-                &close.near(),
-                &others.near(),
+            (Clocks::Short(short), Clocks::Short(others)) => is_near_but(
+                &wide(short),
+                &wide(others),
                 node,
             ),
             (Clocks::Near(near), Clocks::Near(others)) => is_near_but(near, others, node),
@@ -149,13 +148,13 @@ impl Clocks {
     }
 }
 
-// The clocks of all nodes, in place or on the heap. The room to pack them is cleared here alone.
+// The clocks of all nodes, on the heap. The room to pack them is cleared here alone.
 #[inline(never)]
 fn of_all(alloc: Global, vector: &Vector) -> Result<Clocks, NoMemory>
     ensures { IfOk result (λ clocks. vector_in clocks ≡ vector.now) }
 {
-    if let Some(close) = Close::of(vector) {
-        return Ok(Clocks::Close(close));
+    if let Some(short) = vector.short() {
+        return Ok(Clocks::Short(Box::new(alloc, short)?));
     }
     match vector.near() {
         Some(near) => Ok(Clocks::Near(Box::new(alloc, near)?)),
@@ -163,10 +162,10 @@ fn of_all(alloc: Global, vector: &Vector) -> Result<Clocks, NoMemory>
     }
 }
 
-fn join_few(others: &mut [u64; 32], few: &[u32; 8])
+fn join_few(others: &mut [u64; 32], few: &[u16; 8])
     ensures { others.new ≡ join_of others.old (unpacked few.now) }
 {
-    join_short(others, few);
+    join_short(others, &wide(few));
 }
 
 fn join_near(others: &mut [u64; 32], near: &[u32; 32])
@@ -211,23 +210,34 @@ fn next_above_by_node(clocks: &Clocks, others: &Clocks, start: u32) -> Option<u3
     None
 }
 
-fn next_above_few(few: &[u32; 8], others: &[u32; 8], start: u32) -> Option<u32>
+fn next_above_few(few: &[u16; 8], others: &[u16; 8], start: u32) -> Option<u32>
     ensures range { IfSome result (λ n. n < 32) }
     ensures rises { IfSome result (λ n. clock_of (unpacked others.now) n < clock_of (unpacked few.now) n) }
     ensures from { IfSome result (λ n. start ≤ n) }
     ensures least { IfSome result (λ n. (k : ℕ) → start ≤ k → k < n → clock_of (unpacked few.now) k ≤ clock_of (unpacked others.now) k) }
     ensures none { result ≡ None → (k : ℕ) → start ≤ k → k < 32 → clock_of (unpacked few.now) k ≤ clock_of (unpacked others.now) k }
 {
-    next_above(few, others, start)
+    next_above(&wide(few), &wide(others), start)
 }
 
-fn is_few(few: &[u32; 8], others: &[u32; 8]) -> bool
+// Short clocks, as wide as others.
+fn wide<const N: usize>(short: &[u16; N]) -> [u32; N]
+    ensures { result ≡ short.now }
+{
+    let mut wide = [0; N];
+    for n in 0..N {
+        wide[n] = u32::from(short[n]);
+    }
+    wide
+}
+
+fn is_few(few: &[u16; 8], others: &[u16; 8]) -> bool
     ensures { IsTrue result ↔ (unpacked few.now ≡ unpacked others.now) }
 {
     few == others
 }
 
-fn at_few(few: &[u32; 8], node: u32) -> u64
+fn at_few(few: &[u16; 8], node: u32) -> u64
     requires { node < 32 }
     ensures { result ≡ clock_of (unpacked few.now) node }
 {
@@ -238,7 +248,7 @@ fn at_few(few: &[u32; 8], node: u32) -> u64
     }
 }
 
-fn nodes_of_few(few: &[u32; 8]) -> u32
+fn nodes_of_few(few: &[u16; 8]) -> u32
     ensures most { result ≤ 32 }
     ensures behind { (n : ℕ) → result ≤ n → n < 32 → clock_of (unpacked few.now) n ≡ 0 }
 {
@@ -246,7 +256,7 @@ fn nodes_of_few(few: &[u32; 8]) -> u32
 }
 
 // Whether these are the same clocks but for that of this node; those behind them are 0.
-fn is_few_but(few: &[u32; 8], others: &[u32; 8], node: u32) -> bool
+fn is_few_but(few: &[u16; 8], others: &[u16; 8], node: u32) -> bool
     ensures { IsTrue result ↔ ((n : ℕ) → n < 32 → (n ≡ node → ⊥) → clock_of (unpacked few.now) n ≡ clock_of (unpacked others.now) n) }
 {
     for n in 0..8 {

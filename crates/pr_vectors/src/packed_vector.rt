@@ -7,10 +7,10 @@ use pr_stamps::NoMemory;
 use std::alloc::Global;
 use std::marker::Model;
 
-/// A version vector as messages and entries of a journal keep it, in 40 bytes where a `Vector` takes 264. Where each clock
-/// is below 2^32, and either only the first eight nodes count, or none that counts is more than 254 below the greatest, it
-/// lies in place. Else its 32 clocks are on the heap, in 128 bytes, or with their count in 264 where one of them is 2^32 or
-/// more. Contracts see it as they see a `Vector`, and each call takes time linear in the nodes.
+/// A version vector as messages and entries of a journal keep it, in 24 bytes where a `Vector` takes 264: where only the
+/// first eight nodes count, and each clock is below 2^16, it lies in place. Else its 32 clocks are on the heap: in 64 bytes
+/// where each is below 2^16, in 128 where each is below 2^32, or with their count in 264. Contracts see it as they see a
+/// `Vector`, and each call takes time linear in the nodes.
 #[derive(Drop)]
 pub struct PackedVector {
     clocks: Clocks,
@@ -28,7 +28,7 @@ impl Model for PackedVector {
     ghost invariant = { λ v. IsVector (vector_in v.clocks) };
 }
 
-const _: () = prove!(size_of::<PackedVector>() == 40);
+const _: () = prove!(size_of::<PackedVector>() == 24);
 
 impl PackedVector {
     ghost use Rattle.pr_vectors.specs.Vector.{IsVector, Le, clock_of, zero_vector};

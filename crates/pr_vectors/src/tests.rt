@@ -85,9 +85,20 @@ fn what_is_packed_is_the_vector(rt: HostRuntime) -> Result<(), Fail> {
     let middle = vector(&[(3, 0), (2, 5)]).ok_or("stamps")?;
     let large = vector(&[(MAX, 7)]).ok_or("a stamp")?;
     let last = vector(&[(1, 31)]).ok_or("a stamp")?;
-    let close = vector(&[(746, 3), (1000, 20), (999, 31)]).ok_or("stamps")?;
-    let apart = vector(&[(745, 3), (1000, 20), (999, 31)]).ok_or("stamps")?;
-    for vector in [Vector::zero(), middle, large, last, close, apart] {
+    let short = vector(&[(65_535, 0), (65_535, 7)]).ok_or("stamps")?;
+    let long = vector(&[(65_536, 0), (65_535, 7)]).ok_or("stamps")?;
+    let wide = vector(&[(65_535, 3), (7, 31)]).ok_or("stamps")?;
+    let long_and_wide = vector(&[(65_536, 3), (7, 31)]).ok_or("stamps")?;
+    for vector in [
+        Vector::zero(),
+        middle,
+        large,
+        last,
+        short,
+        long,
+        wide,
+        long_and_wide,
+    ] {
         assert!(rt; is_packed(rt.alloc(), &vector).unwrap_or(false));
     }
     Ok(())
@@ -114,11 +125,18 @@ fn the_first_node_above_is_found(rt: HostRuntime) -> Result<(), Fail> {
     assert!(rt; is_first_above(rt.alloc(), &middle, &large, Some(5)).unwrap_or(false));
     assert!(rt; is_first_above(rt.alloc(), &large, &middle, None).unwrap_or(false));
     assert!(rt; is_first_above(rt.alloc(), &Vector::zero(), &middle, Some(0)).unwrap_or(false));
-    let close = vector(&[(900, 3), (1000, 20), (999, 31)]).ok_or("stamps")?;
-    let closer = vector(&[(900, 3), (1000, 20), (1001, 31)]).ok_or("stamps")?;
-    assert!(rt; is_first_above(rt.alloc(), &close, &closer, Some(31)).unwrap_or(false));
-    assert!(rt; is_first_above(rt.alloc(), &closer, &close, None).unwrap_or(false));
-    assert!(rt; is_first_above(rt.alloc(), &last, &close, Some(3)).unwrap_or(false));
+    let short = vector(&[(65_535, 3), (9, 7)]).ok_or("stamps")?;
+    let long = vector(&[(65_535, 3), (65_536, 7)]).ok_or("stamps")?;
+    let longer = vector(&[(65_535, 3), (65_536, 7), (1, 31)]).ok_or("stamps")?;
+    assert!(rt; is_first_above(rt.alloc(), &short, &long, Some(7)).unwrap_or(false));
+    assert!(rt; is_first_above(rt.alloc(), &long, &short, None).unwrap_or(false));
+    assert!(rt; is_first_above(rt.alloc(), &long, &longer, Some(31)).unwrap_or(false));
+    let wide = vector(&[(65_535, 3), (8, 31)]).ok_or("stamps")?;
+    let wider = vector(&[(65_535, 3), (9, 31)]).ok_or("stamps")?;
+    assert!(rt; is_first_above(rt.alloc(), &short, &wide, Some(31)).unwrap_or(false));
+    assert!(rt; is_first_above(rt.alloc(), &wide, &wider, Some(31)).unwrap_or(false));
+    assert!(rt; is_first_above(rt.alloc(), &wider, &wide, None).unwrap_or(false));
+    assert!(rt; is_first_above(rt.alloc(), &wide, &longer, Some(7)).unwrap_or(false));
     Ok(())
 }
 
@@ -138,12 +156,18 @@ fn vectors_are_the_same_but_for_one_node(rt: HostRuntime) -> Result<(), Fail> {
     assert!(rt; is_but(rt.alloc(), &middle, &large, 5).unwrap_or(false));
     assert!(rt; is_but(rt.alloc(), &middle, &middle, 40).unwrap_or(false));
     assert!(rt; !is_but(rt.alloc(), &middle, &raised, 0).unwrap_or(true));
-    let close = vector(&[(900, 3), (1000, 20)]).ok_or("stamps")?;
-    let closer = vector(&[(900, 3), (1001, 20)]).ok_or("stamps")?;
-    let apart = vector(&[(1, 3), (1000, 20)]).ok_or("stamps")?;
-    assert!(rt; is_but(rt.alloc(), &close, &closer, 20).unwrap_or(false));
-    assert!(rt; !is_but(rt.alloc(), &close, &closer, 3).unwrap_or(true));
-    assert!(rt; is_but(rt.alloc(), &close, &apart, 3).unwrap_or(false));
-    assert!(rt; !is_but(rt.alloc(), &apart, &close, 20).unwrap_or(true));
+    let short = vector(&[(65_535, 3), (9, 7)]).ok_or("stamps")?;
+    let long = vector(&[(65_535, 3), (65_536, 7)]).ok_or("stamps")?;
+    let longer = vector(&[(65_536, 3), (65_536, 7)]).ok_or("stamps")?;
+    assert!(rt; is_but(rt.alloc(), &short, &long, 7).unwrap_or(false));
+    assert!(rt; !is_but(rt.alloc(), &short, &long, 3).unwrap_or(true));
+    assert!(rt; is_but(rt.alloc(), &long, &longer, 3).unwrap_or(false));
+    assert!(rt; !is_but(rt.alloc(), &longer, &long, 7).unwrap_or(true));
+    let wide = vector(&[(65_535, 3), (8, 31)]).ok_or("stamps")?;
+    let wider = vector(&[(65_535, 3), (9, 31)]).ok_or("stamps")?;
+    let long_and_wide = vector(&[(65_536, 3), (9, 31)]).ok_or("stamps")?;
+    assert!(rt; is_but(rt.alloc(), &wide, &wider, 31).unwrap_or(false));
+    assert!(rt; !is_but(rt.alloc(), &wide, &wider, 3).unwrap_or(true));
+    assert!(rt; is_but(rt.alloc(), &wider, &long_and_wide, 3).unwrap_or(false));
     Ok(())
 }

@@ -59,6 +59,7 @@ impl Node {
     {
         let time = self.diary.begin(session.time())?;
         let stream = session.stream();
+        // What the log lists from here on stays listed where the turn then fails: a journal says nothing of it.
         list_names(&mut self.stores, session)?;
         let journal = self.diary.journal();
         let step = next_turn(self.alloc, &self.stores, journal, session, scan, time)?;

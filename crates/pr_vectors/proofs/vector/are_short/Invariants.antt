@@ -3,4 +3,4 @@ use Rattle.std.specs.Prelude.{IsTrue}
 use Rattle.pr_vectors.proofs.vector.are_short.Given as goal
 
 abbrev pub invariant-loop-n : goal.invariant-loop-n
-invariant-loop-n l = IsTrue l.short → (k : ℕ) → k < l.n → get_or l.clocks k 0 ≤ 4294967295
+invariant-loop-n l = IsTrue l.short → (k : ℕ) → k < l.n → get_or l.clocks k 0 ≤ 65535
