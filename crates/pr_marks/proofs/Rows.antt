@@ -1,5 +1,5 @@
 -- What the map of rows has at a name.
-use Rattle.std.proofs.Common.{◌≡◌, ℕ, List, [], ◌∷◌, Option, None, Some, Bool, true, false, cond, refl, sym, ◌∙◌, ap, filter, find, not, ◌&&◌, get_or, arith}
+use Rattle.std.proofs.Common.{◌≡◌, ℕ, List, [], ◌∷◌, Option, None, Some, Bool, true, false, cond, refl, sym, ◌∙◌, ap, filter, find, not, ◌&&◌, get_or, subst, arith}
 use Rattle.std.specs.Prelude.{AllPairs, IsTrue}
 use Rattle.std.specs.List.Sorted.{IsStrictlySortedBy}
 use Rattle.std.specs.declared.cmp.Ordering.TheVariants.{Less}
@@ -15,6 +15,7 @@ use Rattle.std.proofs.lemmas.Map.Text.{is_eq-slice_cmp}
 use Rattle.std.proofs.lemmas.Slice.Eq.{bytes_eq-Decides}
 use Rattle.pr_names.specs.Order.{name_lt}
 use Rattle.pr_names.proofs.Places.{lt_cmp}
+use Rattle.pr_stamps.specs.Point.{Point}
 use Rattle.pr_stamps.specs.declared.mark.Mark.{Mark}
 use Rattle.pr_vectors.specs.Vector.{is_covered}
 use Rattle.pr_stamps.specs.declared.newest.Newest.{Newest}
@@ -63,6 +64,10 @@ is_marked a b name mark gone row first old to floor rows was is newest marks kep
   newest = λ o. ap (option_map (λ (k : Kept). k.newest)) (rows o) ∙ newest_cond (bytes_eq name o) row (row_of a o) ∙ ap (λ n. cond (bytes_eq name o) (Some n) (option_map (λ (k : Kept). k.newest) (row_of a o))) (kept ∙ newest ∙ ap (λ r. raised_to (option_map (λ (k : Kept). k.newest) r) to) was ∙ ap (raised_to (option_map (λ (k : Kept). k.newest) (row_of a name))) is);
   marks = λ o. ap marks_in (rows o) ∙ marks_cond (bytes_eq name o) row (row_of a o) ∙ ap (λ m. cond (bytes_eq name o) m (marks_in (row_of a o))) (added ∙ ap (λ m. cond (is_covered a.floor mark.stamp) m (with_mark m mark)) (marks ∙ ap marks_in was));
 }
+
+-- a mark is its stamp and the one before it
+pub marked_as : (a b : Table) (name : List ℕ) (mark : Mark) (stamp : Point) (gone : Bool) → mark.stamp ≡ stamp → IsMarked a b name mark gone → IsMarked a b name (record { stamp = stamp; prev = mark.prev }) gone
+marked_as a b name mark stamp gone is marked = subst (λ s. IsMarked a b name (record { stamp = s; prev = mark.prev }) gone) is marked
 
 -- ---- the next name
 

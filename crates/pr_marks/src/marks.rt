@@ -3,7 +3,9 @@ ghost use Rattle.pr_marks.specs.Pairs.{pairs_of};
 ghost use Rattle.pr_marks.specs.Row.{Rises};
 ghost use Rattle.pr_marks.specs.Table.{IsForgotten, IsMarked, IsRaised, is_after, marks_of, names_of, newest_of, row_of};
 ghost use Rattle.pr_names.specs.Order.{NamesRise};
+ghost use Rattle.pr_stamps.specs.declared.newest.Newest.{Newest};
 ghost use Rattle.pr_vectors.specs.Vector.{IsVector, zero_vector};
+ghost use Rattle.std.specs.Option.{option_map};
 ghost use Rattle.std.specs.Prelude.{◌≡◌, [], true, false, MatchOption, None, Some, IfOk, IfSome, IsErr, OnErr, OnOk, find};
 ghost use Rattle.std.specs.BTreeMap.{keys};
 
@@ -99,6 +101,55 @@ impl Marks {
         marked::note(&mut row, &mut self.marked, &self.floor, name, mark)?;
         self.rows.insert(*name, row)?;
         Ok(())
+    }
+
+    /// Knows of the next write of a name, as `add` does, where its mark says that the newest known stamp of the name was
+    /// known before it. Answers that stamp, of the one look-up of the name.
+    pub fn follow(
+        &mut self,
+        name: &Name,
+        stamp: &Stamp,
+        gone: bool,
+    ) -> Result<Option<Stamp>, NoMemory>
+        ensures prev { IfOk result (λ prev. prev ≡ option_map (λ (n : Newest). n.stamp) (newest_of self.old name.now)) }
+        ensures ok { IfOk result (λ prev. IsMarked self.old self.new name.now (record { stamp = stamp.now; prev = prev }) gone) }
+        ensures works { IfOk result (λ _. self.new.spent ≡ false) }
+        ensures err { OnErr result (self.new.spent ≡ true) }
+        ensures spent { self.old.spent ≡ true → IsErr result }
+    {
+        if self.spent {
+            return Err(NoMemory);
+        }
+        self.spent = true;
+        let prev = self.follow_known(name, stamp, gone)?;
+        if prev.is_none() {
+            self.add_new(name, &next_mark(stamp, None), gone)?;
+        }
+        self.spent = false;
+        Ok(prev)
+    }
+
+    // Knows of the next write of the name, if the name is known, and answers the newest known stamp.
+    fn follow_known(
+        &mut self,
+        name: &Name,
+        stamp: &Stamp,
+        gone: bool,
+    ) -> Result<Option<Stamp>, NoMemory>
+        ensures known { IfOk result (λ prev. (prev ≡ None → ⊥) → IsMarked self.old self.new name.now (record { stamp = stamp.now; prev = prev }) gone) }
+        ensures prev { IfOk result (λ prev. prev ≡ option_map (λ (n : Newest). n.stamp) (newest_of self.old name.now)) }
+        ensures unknown { IfOk result (λ prev. prev ≡ None → (self.new ≡ self.old) × (row_of self.old name.now ≡ None)) }
+        ensures spent { self.new.spent ≡ self.old.spent }
+    {
+        match self.rows.get_mut(name) {
+            Some(row) => {
+                let mark = next_mark(stamp, Some(row.newest().stamp));
+                row.raise(&newest_of(&mark, gone));
+                marked::note(row, &mut self.marked, &self.floor, name, &mark)?;
+                Ok(mark.prev)
+            }
+            None => Ok(None),
+        }
     }
 
     /// Knows of a stamp of the name, in time logarithmic in the names.
@@ -234,6 +285,16 @@ fn next_after(rows: &BTreeMap<Name, Row>, name: &Name) -> Option<Name>
     {
         Some((next, _)) => Some(*next),
         None => None,
+    }
+}
+
+// The mark of a write whose node knew this stamp as the newest.
+fn next_mark(stamp: &Stamp, prev: Option<Stamp>) -> Mark
+    ensures { result ≡ record { stamp = stamp.now; prev = prev } }
+{
+    Mark {
+        stamp: *stamp,
+        prev,
     }
 }
 

@@ -51,6 +51,20 @@ fn marks_and_their_conflicts(rt: HostRuntime) -> Result<(), Fail> {
     Ok(())
 }
 
+#[test]
+fn a_next_write_follows_the_newest_known(rt: HostRuntime) -> Result<(), Fail> {
+    let a = Name::read(b"a").ok().ok_or("a name")?;
+    let mut table = Marks::new(rt.alloc());
+    let first = mark((1, 0), None).ok_or("a mark")?;
+    let second = mark((3, 1), Some((1, 0))).ok_or("a mark")?;
+    let newest = newest((3, 1), true).ok_or("a stamp")?;
+    assert_eq!(rt; table.follow(&a, &first.stamp, false), Ok(first.prev));
+    assert_eq!(rt; table.follow(&a, &second.stamp, true), Ok(second.prev));
+    assert!(rt; has_marks(&table, &a, &[(1, 0), (3, 1)]) && table.newest(&a) == Some(newest));
+    assert!(rt; table.pairs(&a).is_ok_and(|pairs| pairs.is_empty()));
+    Ok(())
+}
+
 fn newest(stamp: (u64, u32), gone: bool) -> Option<Newest> {
     let stamp = Stamp::new(stamp.0, stamp.1)?;
     Some(Newest { stamp, gone })

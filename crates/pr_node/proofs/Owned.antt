@@ -3,7 +3,6 @@ use Rattle.std.proofs.Common.{◌≡◌, ℕ, ◌<◌, ◌≤◌, ◌+◌, List,
 use Rattle.std.specs.Prelude.{Bool, Option, None, Some}
 use Rattle.std.specs.Option.{option_map}
 use Rattle.pr_stamps.specs.Point.{Point, IsStamp, IsPrev}
-use Rattle.pr_inval.specs.declared.write_rec.WriteRec.{WriteRec}
 use Rattle.pr_names.specs.Name.{IsName}
 use Rattle.pr_vectors.specs.Vector.{clock_of, Covers, IsVector}
 use Rattle.pr_vectors.proofs.Vectors.{clock_of-vector_of}
@@ -16,7 +15,7 @@ use Rattle.pr_story.specs.Ranges.{IsStampOrNone}
 use Rattle.pr_story.specs.Search.{IsNewestOf}
 use Rattle.pr_node.specs.Ties.{IsMarksOf}
 use Rattle.pr_node.specs.Grammar.{IsSpelled}
-use Rattle.pr_node.specs.Writes.{IsClockWornIn, IsNextOwn}
+use Rattle.pr_node.specs.Writes.{IsClockWornIn, IsNextOwn, IsNextStamp}
 use Rattle.pr_node.proofs.Clocks.{clock_out, below_or_not}
 use Rattle.pr_node.proofs.Spelled.{named_covered}
 
@@ -39,21 +38,19 @@ newest_known j m o newest f is = by newest (f.newest o) is
     by None known is = subst (λ (x : Option Newest). IsNewestOf j o x) (sym is) known
     by (Some n) known is = (subst (λ (x : Option Newest). IsNewestOf j o x) (sym is) known).0
 
-pub next_own : (n : ℕ) (j : List Entry) (v name : List ℕ) (gone : Bool) (great clock : ℕ) (stamp : Point) (prev : Option Point)
-    → v ≡ current_vector j → ((w : ℕ) → w < 32 → clock_of v w ≤ great) → ((w : ℕ) × (w < 32) × (clock_of v w ≡ great))
-    → clock ≡ great + 1 → stamp ≡ record { clock = clock; node = n } → IsStamp stamp → IsName name → IsStampOrNone prev → IsNewestKnown j name prev → IsSpelled j
+pub next_own : (n : ℕ) (j : List Entry) (v name : List ℕ) (gone : Bool) (stamp : Point) (prev : Option Point)
+    → v ≡ current_vector j → IsNextStamp n v stamp → IsStamp stamp → IsName name → IsStampOrNone prev → IsNewestKnown j name prev → IsSpelled j
     → IsNextOwn n j name gone (record { name = name; stamp = stamp; prev = prev; gone = gone })
-next_own n j v name gone great clock stamp prev is most held next at range is_name before newest spelled =
-    let c : stamp.clock ≡ great + 1 = ap (λ (p : Point). p.clock) at ∙ next in
+next_own n j v name gone stamp prev is after range is_name before newest spelled =
     record {
       is_name = refl;
       is_gone = refl;
-      node = ap (λ (p : Point). p.node) at;
+      node = after.node;
       in_range = (is_name, range, before);
-      after_all = λ w lt. let e : clock_of v w ≡ current_clock j w = clock_is j v w is lt in let m : clock_of v w ≤ great = most w lt in omega (arith, c, e, m);
-      next = (held.0, held.1, c ∙ ap (λ (k : ℕ). k + 1) (sym held.2 ∙ clock_is j v held.0 is held.1));
+      after_all = λ w lt. let e : clock_of v w ≡ current_clock j w = clock_is j v w is lt in omega (arith, e, after.after_all w lt);
+      next = (after.next.0, after.next.1, after.next.2 ∙ ap (λ (k : ℕ). k + 1) (clock_is j v after.next.0 is after.next.1));
       newest = newest;
-      before = follows prev before newest (λ q named. let lt : q.node < 32 = named.1 in let m : clock_of v q.node ≤ great = most q.node lt in let e : clock_of v q.node ≡ current_clock j q.node = clock_is j v q.node is lt in let k : q.clock ≤ current_clock j q.node = named.0 in omega (arith, c, e, m, k));
+      before = follows prev before newest (λ q named. let lt : q.node < 32 = named.1 in let e : clock_of v q.node ≡ current_clock j q.node = clock_is j v q.node is lt in let k : q.clock ≤ current_clock j q.node = named.0 in let m : clock_of v q.node < stamp.clock = after.after_all q.node lt in omega (arith, e, k, m));
     }
   where
     known_node : (q : Point) → Covers (current_vector j) q → (q.clock ≤ current_clock j q.node) × (q.node < 32)
@@ -65,10 +62,3 @@ next_own n j v name gone great clock stamp prev is most held next at range is_na
     follows : (prev : Option Point) → IsStampOrNone prev → IsNewestKnown j name prev → ((q : Point) → (q.clock ≤ current_clock j q.node) × (q.node < 32) → q.clock < stamp.clock) → IsPrev prev stamp
     follows None range known less = tt
     follows (Some q) range known less = (range, inl (less q (known_node q (named_covered j spelled name q known.0))))
-
-pub own_above : (n : ℕ) (j : List Entry) (v name : List ℕ) (gone : Bool) (write : WriteRec) → n < 32 → v ≡ current_vector j → IsNextOwn n j name gone write → clock_of v write.stamp.node < write.stamp.clock
-own_above n j v name gone write id is own =
-    let lt : write.stamp.node < 32 = let e : write.stamp.node ≡ n = own.node in omega (arith, e, id) in
-    let e : clock_of v write.stamp.node ≡ current_clock j write.stamp.node = clock_is j v write.stamp.node is lt in
-    let a : current_clock j write.stamp.node < write.stamp.clock = own.after_all write.stamp.node lt in
-    omega (arith, e, a)

@@ -2,12 +2,19 @@
 use Rattle.std.specs.Prelude.{ℕ, List, Bool, ◌≡◌, ◌<◌, ◌+◌, ◌&&◌, not, cond, None, Some}
 use Rattle.std.specs.Str.{bytes_eq}
 use Rattle.pr_stamps.specs.Point.{Point, is_before, is_this, IsPrev}
+use Rattle.pr_vectors.specs.Vector.{clock_of}
 use Rattle.pr_bodies.specs.Bodies.{Held, held}
 use Rattle.pr_inval.specs.declared.write_rec.WriteRec.{WriteRec}
 use Rattle.pr_story.specs.declared.entry.Entry.{Entry}
 use Rattle.pr_story.specs.History.{current_clock}
 use Rattle.pr_story.specs.Knowledge.{IsNewestKnown}
 use Rattle.pr_story.specs.Ranges.{IsWrite}
+
+-- the stamp of the write that node n makes next, where its vector is v
+pub record IsNextStamp (n : ℕ) (v : List ℕ) (stamp : Point) : Type 0 where
+  pub node : stamp.node ≡ n
+  pub after_all : (w : ℕ) → w < 32 → clock_of v w < stamp.clock
+  pub next : (w : ℕ) × (w < 32) × (stamp.clock ≡ clock_of v w + 1)
 
 -- the write that node n makes next
 pub record IsNextOwn (n : ℕ) (j : List Entry) (name : List ℕ) (gone : Bool) (write : WriteRec) : Type 0 where

@@ -22,7 +22,7 @@ use crate::rebuilding::{cut, drop_body, fresh, rebuilt};
 use crate::standing::precise;
 use crate::starting::{checkpoint, start};
 use crate::taking::{gap, take};
-use crate::writing::{keep_write, next_write};
+use crate::writing::{next_stamp, own_write};
 use crate::{Answer, Done, Seen, Stores};
 use pr_inval::{Msg, NodeFault, Taken};
 use pr_names::Name;
@@ -183,16 +183,15 @@ impl Node {
             self.diary.behind(time, caller, client, needs, vector)?;
             return Ok(Done::Behind { has: *vector });
         }
-        let Some(write) = next_write(&self.stores, self.id, name, gone) else {
+        let Some(stamp) = next_stamp(&self.stores, self.id) else {
             self.diary.give_up();
             return Err(NodeFault::Worn { at: MAX });
         };
         let after = PackedVector::of(self.alloc, self.stores.log.vector())?;
         let body = Seq::copied(self.alloc, body)?;
-        keep_write(&mut self.stores, &write, body.as_slice())?;
-        let stamp = write.stamp;
+        let write = own_write(&mut self.stores, name, &stamp, gone, body.as_slice())?;
         self.diary.wrote(time, caller, client, &write, body, after);
-        Ok(Done::Stamp(stamp))
+        Ok(Done::Stamp(write.stamp))
     }
 
     /// Takes a message of a stream, or finds that one before it is missing ("PRACTI Replication", NSDI 2006, section
